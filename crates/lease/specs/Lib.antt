@@ -1,0 +1,15 @@
+pub mod Tables
+pub mod Rows
+pub mod Handlers
+pub mod Passes
+pub mod Notices
+pub mod Calls
+pub mod Limits
+pub mod RecordCheck
+pub mod Refusals
+pub mod SetUp
+pub mod Rules
+pub mod Verdicts
+pub mod Shift
+pub mod Slips
+pub mod Edges

@@ -1,0 +1,31 @@
+-- Set-up's limits, which the record check looks at again. Definitions only.
+use Prim.Native.Nat.{ℕ}
+use mathlib.Core.Bool.{Bool, cond, false}
+use lib.Dec.{leb, ltb}
+use Rattle.timer.specs.declared.Reading.{Reading}
+
+abbrev pub within : ℕ → ℕ → ℕ → Bool
+within low x high = cond (leb low x) (leb x high) false
+
+-- T is 100 ms to 10 s.
+abbrev pub timeoutValid : ℕ → Bool
+timeoutValid t = within 100000000 t 10000000000
+
+-- Ids and rows that a record has room for.
+abbrev pub capacity : ℕ
+capacity = 64
+
+-- Population is 1 to 64.
+abbrev pub populationValid : ℕ → Bool
+populationValid n = within 1 n capacity
+
+-- Own id is below the population.
+abbrev pub ownValid : ℕ → ℕ → Bool
+ownValid me n = ltb me n
+
+-- A clock reading is at most 9,223,372,036,854,775,807 ns.
+abbrev pub maxReading : ℕ
+maxReading = 9223372036854775807
+
+abbrev pub readingValid : Reading → Bool
+readingValid now = leb (now .0) maxReading
