@@ -1,0 +1,6 @@
+pub mod Base
+pub mod LogFacts
+pub mod RowFacts
+pub mod Invariant
+pub mod Demand3
+pub mod Program

@@ -1,0 +1,3 @@
+pub mod Log
+pub mod Demand3
+pub mod Program
