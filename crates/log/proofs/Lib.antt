@@ -4,3 +4,4 @@ pub mod RowFacts
 pub mod Invariant
 pub mod Demand3
 pub mod Program
+pub mod Edges
