@@ -11,6 +11,7 @@ use Rattle.timer.specs.declared.Reading.{Reading}
 use Rattle.lease.specs.declared.AcceptBar.the-variants as B
 use Rattle.lease.specs.declared.PeerSet.the-variants.{All, Of}
 use Rattle.lease.specs.declared.LeaseMsg.the-variants as M
+use Rattle.lease.specs.declared.LeaseAction.the-variants as A
 use Rattle.lease.specs.declared.LeaseNum.{LeaseNum}
 use Rattle.lease.specs.declared.LeaseNotice.{LeaseNotice}
 use Rattle.lease.specs.declared.LeaseNotice.the-variants as N
@@ -28,7 +29,7 @@ use Rattle.lease.specs.RecordCheck.{recordValid}
 use Rattle.lease.specs.SetUp.{setupOf}
 use Rattle.lease.specs.Rules.{noticeOf}
 use Rattle.lease.specs.Verdicts.{Call, notice, advance, refresh, drift, time-left, verdict, linesOf}
-use Rattle.lease.specs.Shift.{Ask, call, Answer, noticed, advanced, set, left, ms, start, answers, next, no, noneFired, promiseSent}
+use Rattle.lease.specs.Shift.{Ask, call, Answer, noticed, advanced, set, left, ms, start, answers, next, no, under, noneFired, promiseSent}
 
 -- ---- 3,000 s
 
@@ -60,12 +61,12 @@ FarAccepted = recordValid (farAt 3000000000000) ≡ true
 abbrev pub BeyondRefused : Type 0
 BeyondRefused = (num : LeaseNum) (x : LeaseNotice) → noticeOf (farAt 3000000000001) num x ≡ record { outcome = NO.Refused 15; manager = farAt 3000000000001 }
 
--- ---- the refusals of calls, each at its limit and, where two apply, the first
+-- ---- the refusals of calls, each at its limit; a refused notice under 1 does not raise the number, so the one under 0 is handled
 
 unfoldable pub refusalAsks : List Ask
 refusalAsks =
     call (notice (no 1) (N.RecvLeaseMsg 3 M.Promise)) ∷ call (notice (no 1) (N.GrantTimeout 300)) ∷ call (notice (no 1) (N.LeaseTimeout 0)) ∷ call (time-left 3) ∷ call (time-left 0)
-    ∷ call (notice (no 1) (N.NewGrants (Of (bitmapOf 2 0)) B.None)) ∷ call (notice (no 1) (N.DoRevoke (Of (bitmapOf 0 0)))) ∷ call (notice (no 0) (N.DoRevoke (Of (bitmapOf 3 0))))
+    ∷ call (notice (no 1) (N.NewGrants (Of (bitmapOf 2 0)) B.None)) ∷ call (notice (no 1) (N.DoRevoke (Of (bitmapOf 0 0)))) ∷ call (notice (no 0) (N.NewGrants (Of (bitmapOf 3 0)) B.None))
     ∷ call (refresh (Of (bitmapOf 0 0))) ∷ call (refresh (Of (bitmapOf 65 0))) ∷ call (refresh (Of (bitmapOf 64 0)))
     ∷ call (advance (record { 0 = 9223372036854775808 })) ∷ call (advance (record { 0 = 9223372036854775807 })) ∷ call (advance (record { 0 = 9223372036854775806 }))
     ∷ call (advance (record { 0 = 9223372036854775807 })) ∷ []
@@ -73,7 +74,7 @@ refusalAsks =
 unfoldable pub refusalAnswers : List Answer
 refusalAnswers =
     noticed (NO.Refused 7) ∷ noticed (NO.Refused 7) ∷ noticed (NO.Refused 8) ∷ left (TO.Refused 7) ∷ left (TO.Refused 8)
-    ∷ noticed (NO.Refused 9) ∷ noticed (NO.Refused 9) ∷ noticed (NO.Done L.None)
+    ∷ noticed (NO.Refused 9) ∷ noticed (NO.Refused 9) ∷ noticed (NO.Done (L.One (under 0 (A.BcastLeaseMsgs (bitmapOf 3 0) (M.Guard B.None)))))
     ∷ set (SO.Refused 12) ∷ set (SO.Refused 12) ∷ set (SO.Ids (bitmapOf 3 0))
     ∷ advanced (AO.Refused 5) ∷ advanced noneFired ∷ advanced (AO.Refused 6)
     ∷ advanced noneFired ∷ []

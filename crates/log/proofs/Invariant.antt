@@ -148,7 +148,7 @@ module _ (m : Manager) (j : Journal) (i : Inv m j) where
   in-rows : (p : ℕ) → p < 64 → p < length (m .peers)
   in-rows p h = let z = i .sized in omega arith
 
-  -- strangers stay empty
+  -- the rows of ids that are no peers stay empty
   passed-others : (pass : Pass) (p : ℕ) → p < 64 → isPeer (m .population) (m .me) p ≡ false → rowAt (passOn m pass .peers) p ≡ emptyRow
   passed-others pass p h n = passed-at m pass p (in-rows p h) (λ r. r ≡ emptyRow) (λ y. clash (isPeer (m .population) (m .me) p) y n) (λ z. i .others-empty p h n)
 
@@ -183,7 +183,7 @@ module _ (m : Manager) (j : Journal) (i : Inv m j) where
   idle-last : (p : ℕ) (num : LeaseNum) (b : Bitmap) (msg : LeaseMsg) → lastHeld p (j .log ++ (log-line num (A.BcastLeaseMsgs b msg) (m .now) (m .clock) ∷ [])) ≡ H p
   idle-last p num b msg = last-append p 0 no-line (j .log) (log-line num (A.BcastLeaseMsgs b msg) (m .now) (m .clock) ∷ []) ∙ cond-same (ltb (num .0) (topOf 0 (j .log))) (H p)
 
-  -- a pass that keeps the rows good, with no line
+  -- a pass that keeps the rows' invariant, with no line
   passed-rows : (pass : Pass) → ((p : ℕ) → p < 64 → RowInv t (m .now) (passRow pass p (R p) .peer) (O p) (H p)) → (p : ℕ) → p < 64 → RowInv t (m .now) (rowAt (passOn m pass .peers) p) (O p) (H p)
   passed-rows pass g p h = passed-at m pass p (in-rows p h) (λ r. RowInv t (m .now) r (O p) (H p)) (λ y. g p h) (λ n. i .rows p h)
 
@@ -241,7 +241,7 @@ module _ (m : Manager) (j : Journal) (i : Inv m j) where
       still-open : (p : ℕ) → openLines p (j .log ++ ys) ≡ O p
       still-open p = open-append p (j .log) ys ∙ omega arith
 
-      -- a stranger's row is empty already
+      -- the row of an id that is no peer is empty already
       bare : (p : ℕ) → p < 64 → isPeer (m .population) (m .me) p ≡ false → RowInv t (m .now) (R p) (O p) out
       bare p h n = let k = subst (λ r. RowInv t (m .now) r (O p) (H p)) (i .others-empty p h n) (i .rows p h) in
           subst (λ r. RowInv t (m .now) r (O p) out) (sym (i .others-empty p h n)) (tt, tt, k .2, tt)
@@ -256,9 +256,9 @@ module _ (m : Manager) (j : Journal) (i : Inv m j) where
       go (Base.beyond x l) (same y n) a = absurd (let z : _≡_ {A = ℕ} 8 0 = rw (x, y) at a in omega arith)
       go (at-most x l) k a = absurd (let z : _≡_ {A = ℕ} 7 0 = rw x at a in omega arith)
 
-  -- a stranger is not the peer
-  other-than : (p q : ℕ) → q < m .population → q ≢ m .me → isPeer (m .population) (m .me) p ≡ false → p ≢ q
-  other-than p q l n a k = clash (isPeer (m .population) (m .me) p) (rw (k, lt-ltb q (m .population) l, ne-eqb q (m .me) n)) a
+  -- an id that is no peer is not q
+  no-peer-other : (p q : ℕ) → q < m .population → q ≢ m .me → isPeer (m .population) (m .me) p ≡ false → p ≢ q
+  no-peer-other p q l n a k = clash (isPeer (m .population) (m .me) p) (rw (k, lt-ltb q (m .population) l, ne-eqb q (m .me) n)) a
 
   peer-inv : (q : ℕ) (w : PeerNotice) → peerRefusal (m .population) (m .me) q ≡ 0
       → Inv (onPeer m q w .manager) (longer j (stamped (m .now) (m .clock) (linesUnder (m .«active_num») (actionsOf (onPeer m q w .actions)))))
@@ -267,7 +267,7 @@ module _ (m : Manager) (j : Journal) (i : Inv m j) where
       relined (set (m .peers) q (st .peer)) ys (length-set (m .peers) q (st .peer) ∙ i .sized) (top-lined (m .«active_num») (m .now) (m .clock) ds)
       (within-own (m .«active_num») (m .now) (m .clock) q (m .population) (peer-of q a .0) ds about)
       (λ p h. go p h (sameb q p))
-      (λ p h n. getD-set-other (m .peers) q p (st .peer) emptyRow (other-than p q (peer-of q a .0) (peer-of q a .1) n) ∙ i .others-empty p h n)
+      (λ p h n. getD-set-other (m .peers) q p (st .peer) emptyRow (no-peer-other p q (peer-of q a .0) (peer-of q a .1) n) ∙ i .others-empty p h n)
     where
       st : Handled
       st = handledAt m q w

@@ -19,7 +19,7 @@ use Rattle.lease.specs.declared.LeaseAction.the-variants as A
 use Rattle.lease.specs.declared.Actions.the-variants as AS
 use Rattle.lease.specs.Notices.{line, numbered}
 use Rattle.lease.specs.Verdicts.{linesOf}
-use Rattle.log.specs.Log.{LogLine, log-line, stamped, concerns, saysPromise, isPromise, isEnd, endedIn, openLines, promiseLines, endedLines, Last, heldAfter, topAfter, topOf, lastFrom}
+use Rattle.log.specs.Log.{LogLine, log-line, stamped, concerns, saysPromise, isPromise, isEnd, endedIn, openLines, promiseLines, endedLines, Last, heldAfter, heldBy, topAfter, topOf, lastFrom}
 use Rattle.log.proofs.Base.{Same, same, apart, sameb, sumBelow, sumBelow-cong, sumBelow-add, sumBelow-zero, sumBelow-one}
 
 -- ---- lines at the end
@@ -66,7 +66,7 @@ top-append top (log-line n a r c ∷ xs) ys = top-append (topAfter (n .0) a top)
 pub last-append : (p top : ℕ) (h : Last) (xs ys : List LogLine) → lastFrom p top h (xs ++ ys) ≡ lastFrom p (topOf top xs) (lastFrom p top h xs) ys
 last-append p top h [] ys = refl
 last-append p top h (log-line n a r c ∷ xs) ys =
-    last-append p (topAfter (n .0) a top) (cond (ltb (n .0) top) h (cond (concerns a p) (heldAfter r c a h) h)) xs ys
+    last-append p (topAfter (n .0) a top) (heldBy p top (log-line n a r c) h) xs ys
 
 -- ---- the balance
 

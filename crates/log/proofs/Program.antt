@@ -34,7 +34,7 @@ use Rattle.lease.specs.Refusals.{noticeRefusal, advanceRefusal}
 use Rattle.lease.specs.Verdicts.{Call, notice, advance, quiet-start, refresh, drift, grant-set, lease-set, lease-cnt, time-left, Verdict, refused, done, byNotice, byAdvance, byPlain, bySet, byCount, byTimeLeft, verdict}
 use Rattle.log.specs.Log.{Journal, journalAt, Run, stepped, runFrom}
 use Rattle.log.specs.Demand3.{LogDecides, runOf}
-use Rattle.log.specs.Program.{afterNotice, afterAdvance, afterPlain, afterSet, Step, handle-notice, advances, assume-unknown-grants, attempt-refresh, set-drift, notice-lent, advance-lent, asks-grant-set, asks-lease-set, asks-lease-cnt, asks-time-left, Chain, stop, step, Demand3OfProgram}
+use Rattle.log.specs.Program.{afterNotice, afterAdvance, afterPlain, afterSet, Step, handle-notice, advances, assume-unknown-grants, attempt-refresh, set-drift, notice-lent, advance-lent, asks-grant-set, asks-lease-set, asks-lease-cnt, asks-time-left, Chain, stop, step, Demand3OfProgram, AnyList}
 use Rattle.log.proofs.Demand3.{demand-3}
 
 -- the record that a verdict leaves
@@ -118,9 +118,9 @@ module _ (m : Manager) where
   leads (asks-lease-cnt r h) = ask-count (leaseCntOf m)
   leads (asks-time-left id r h) = ask-left (timeLeftOf m id)
 
-left-followed : (r : Run) (c : Call) (v : Verdict) → stepped r c v .manager ≡ leftBy (r .manager) v
-left-followed r c (refused k) = refl
-left-followed r c (done l m) = refl
+left-stepped : (r : Run) (c : Call) (v : Verdict) → stepped r c v .manager ≡ leftBy (r .manager) v
+left-stepped r c (refused k) = refl
+left-stepped r c (done l m) = refl
 
 -- the record that the program has come to is the one that the rules have come to
 pub follows : {m m' : Manager} {cs : List Call} → Chain Step m cs m' → (j : Journal) → m' ≡ runFrom (record { manager = m; journal = j }) cs .manager
@@ -128,7 +128,7 @@ follows stop j = refl
 follows (step {m} {m₁} {m₂} {c} {cs} s tr) j =
     let r : Run = stepped (record { manager = m; journal = j }) c (verdict m c) in
     follows tr (r .journal)
-    ∙ ap (λ x. runFrom (record { manager = x; journal = r .journal }) cs .manager) (leads m s ∙ sym (left-followed (record { manager = m; journal = j }) c (verdict m c)))
+    ∙ ap (λ x. runFrom (record { manager = x; journal = r .journal }) cs .manager) (leads m s ∙ sym (left-stepped (record { manager = m; journal = j }) c (verdict m c)))
 
 -- DEMAND 3 of the program
 pub demand-3-of-program : Demand3OfProgram
@@ -145,8 +145,8 @@ demand-3-of-program me n t hb now s su ok calls f m tr g l k ag al ak = record {
     here : m ≡ runOf me n t hb now calls .manager
     here = follows tr (journalAt now) ∙ ap (λ (z : SetUpAnswer). runFrom (record { manager = z .manager; journal = journalAt now }) calls .manager) su
 
--- the chain is never empty: for every record and every list of calls there is one
-pub any-list : (cs : List Call) (m : Manager) → (m' : Manager) × Chain Step m cs m'
+-- there is a chain for every list: each call with the answer of the rules
+pub any-list : AnyList
 any-list [] m = (m, stop)
 any-list (notice num x ∷ cs) m = let r = any-list cs (afterNotice m (noticeOf m num x .outcome) (noticeOf m num x .manager)) in (r .0, step (handle-notice num x (noticeOf m num x) refl) (r .1))
 any-list (advance to ∷ cs) m = let r = any-list cs (afterAdvance m (advanceOf m to .outcome) (advanceOf m to .manager)) in (r .0, step (advances to (advanceOf m to) refl) (r .1))

@@ -153,11 +153,13 @@ abbrev pub topOf : ℕ → List LogLine → ℕ
 topOf top [] = top
 topOf top (log-line n a r c ∷ l) = topOf (topAfter (n .0) a top) l
 
--- Lines under a number below that of the last HigherNumber before them are skipped.
+-- What a line makes of p's last held-side line. One under a number below that of the last HigherNumber before it is skipped.
+abbrev pub heldBy : ℕ → ℕ → LogLine → Last → Last
+heldBy p top (log-line n a r c) h = cond (ltb (n .0) top) h (cond (concerns a p) (heldAfter r c a h) h)
+
 abbrev pub lastFrom : ℕ → ℕ → Last → List LogLine → Last
 lastFrom p top h [] = h
-lastFrom p top h (log-line n a r c ∷ l) =
-    lastFrom p (topAfter (n .0) a top) (cond (ltb (n .0) top) h (cond (concerns a p) (heldAfter r c a h) h)) l
+lastFrom p top h (log-line n a r c ∷ l) = lastFrom p (topAfter (n .0) a top) (heldBy p top (log-line n a r c) h) l
 
 abbrev pub lastHeld : ℕ → List LogLine → Last
 lastHeld p l = lastFrom p 0 no-line l

@@ -103,3 +103,7 @@ abbrev pub Demand3OfProgram : Type 0
 Demand3OfProgram =
     (me n t heartbeat : ℕ) (now : Reading) (s : SetUpAnswer) → s ≡ setupOf me n t heartbeat now → s .outcome ≡ Done
     → Demand3For Step GrantSet LeaseSet LeaseCnt me n t heartbeat now (s .manager)
+
+-- For every record and every list of calls there is such a chain, so the statement is about every list.
+abbrev pub AnyList : Type 0
+AnyList = (calls : List Call) (m : Manager) → (m' : Manager) × Chain Step m calls m'
