@@ -50,7 +50,7 @@ use Rattle.lease.specs.Limits.{maxReading}
 use Rattle.lease.specs.Refusals.{peerRefusal, noticeRefusal}
 use Rattle.lease.specs.Verdicts.{drift, linesOf}
 use Rattle.log.specs.Demand3.{Typed}
-use Rattle.log.specs.Log.{LogLine, log-line, stamped, openLines, Last, no-line, out, topOf, lastFrom, lastHeld, QuietStart, never, since, Journal}
+use Rattle.log.specs.Log.{LogLine, log-line, stamped, openLines, Last, no-line, out, topOf, heldBy, lastFrom, lastHeld, QuietStart, never, since, Journal}
 use Rattle.log.proofs.Base.{Same, same, apart, sameb, Below, below, above, belowb, AtMost, at-most, lebb}
 use Rattle.log.proofs.LogFacts.{open-append, top-append, last-append, Within, within-append, actionsOf, linesUnder, numbered-same, numbered-higher, About, ended-own, open-own, last-own, ended-other, open-other, last-other, top-lined, within-own}
 use Rattle.log.proofs.RowFacts.{RowInv, peer-notice-row, peer-notice-about, new-grants-row, do-revoke-row, clear-held-row, higher-number-row, refresh-row, advance-row}
@@ -235,7 +235,7 @@ module _ (m : Manager) (j : Journal) (i : Inv m j) where
       ys : List LogLine
       ys = log-line (m .«active_num») A.LeaseCleared (m .now) (m .clock) ∷ []
 
-      gone : (p : ℕ) → cond (ltb (m .«active_num» .0) (topOf 0 (j .log))) (H p) out ≡ out
+      gone : (p : ℕ) → heldBy p (topOf 0 (j .log)) (log-line (m .«active_num») A.LeaseCleared (m .now) (m .clock)) (H p) ≡ out
       gone p = rw (i .top, le-ltb (m .«active_num» .0) (m .«active_num» .0) (le-refl (m .«active_num» .0)))
 
       still-open : (p : ℕ) → openLines p (j .log ++ ys) ≡ O p
@@ -338,7 +338,7 @@ module _ (m : Manager) (j : Journal) (i : Inv m j) where
       ys : List LogLine
       ys = log-line num A.HigherNumber (m .now) (m .clock) ∷ []
 
-      gone : (p : ℕ) → cond (ltb (num .0) (topOf 0 (j .log))) (H p) out ≡ out
+      gone : (p : ℕ) → heldBy p (topOf 0 (j .log)) (log-line num A.HigherNumber (m .now) (m .clock)) (H p) ≡ out
       gone p = rw (i .top, le-ltb (num .0) (m .«active_num» .0) (omega arith))
 
   -- ---- an outdated number
@@ -366,7 +366,7 @@ module _ (m : Manager) (j : Journal) (i : Inv m j) where
       none p true = omega arith
       none p false = omega arith
 
-      skipped : (p : ℕ) → cond (ltb (num .0) (topOf 0 (j .log))) (H p) (cond (eqb q p) out (H p)) ≡ H p
+      skipped : (p : ℕ) → heldBy p (topOf 0 (j .log)) (log-line num (A.SendLeaseMsg q (M.RevokeReply false)) (m .now) (m .clock)) (H p) ≡ H p
       skipped p = rw (i .top, lt-ltb (num .0) (m .«active_num» .0) l)
 
   outdated-inv : (num : LeaseNum) (x : LeaseNotice) → num .0 < m .«active_num» .0 → noticeRefusal (m .population) (m .me) x ≡ 0

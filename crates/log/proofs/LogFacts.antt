@@ -207,8 +207,8 @@ module _ (num : LeaseNum) (r : Reading) (c : Clock) where
     pub last-own : (l : List LeaseAction) → About q l → (h : Last) → lastFrom q (num .0) h (stamped r c (linesUnder num l)) ≡ lastActions r c l h
     last-own [] k h = refl
     last-own (a ∷ l) k h =
-        let step : cond (ltb (num .0) (num .0)) h (cond (concerns a q) (heldAfter r c a h) h) ≡ heldAfter r c a h = rw (le-ltb (num .0) (num .0) (le-refl (num .0)), k .0 q, eq-eqb q q refl) in
-        ap (λ x. lastFrom q x (cond (ltb (num .0) (num .0)) h (cond (concerns a q) (heldAfter r c a h) h)) (stamped r c (linesUnder num l))) (top-same (num .0) a)
+        let step : heldBy q (num .0) (log-line num a r c) h ≡ heldAfter r c a h = rw (le-ltb (num .0) (num .0) (le-refl (num .0)), k .0 q, eq-eqb q q refl) in
+        ap (λ x. lastFrom q x (heldBy q (num .0) (log-line num a r c) h) (stamped r c (linesUnder num l))) (top-same (num .0) a)
         ∙ ap (λ x. lastFrom q (num .0) x (stamped r c (linesUnder num l))) step ∙ last-own l (k .1) (heldAfter r c a h)
 
     pub within-own : (pop : ℕ) → q < pop → (l : List LeaseAction) → About q l → Within pop (stamped r c (linesUnder num l))
@@ -227,6 +227,6 @@ module _ (num : LeaseNum) (r : Reading) (c : Clock) where
       pub last-other : (l : List LeaseAction) → About q l → (h : Last) → lastFrom p (num .0) h (stamped r c (linesUnder num l)) ≡ h
       last-other [] k h = refl
       last-other (a ∷ l) k h =
-          let step : cond (ltb (num .0) (num .0)) h (cond (concerns a p) (heldAfter r c a h) h) ≡ h = rw (le-ltb (num .0) (num .0) (le-refl (num .0)), k .0 p, ne-eqb q p ne) in
-          ap (λ x. lastFrom p x (cond (ltb (num .0) (num .0)) h (cond (concerns a p) (heldAfter r c a h) h)) (stamped r c (linesUnder num l))) (top-same (num .0) a)
+          let step : heldBy p (num .0) (log-line num a r c) h ≡ h = rw (le-ltb (num .0) (num .0) (le-refl (num .0)), k .0 p, ne-eqb q p ne) in
+          ap (λ x. lastFrom p x (heldBy p (num .0) (log-line num a r c) h) (stamped r c (linesUnder num l))) (top-same (num .0) a)
           ∙ ap (λ x. lastFrom p (num .0) x (stamped r c (linesUnder num l))) step ∙ last-other l (k .1) h
