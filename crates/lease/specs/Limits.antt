@@ -3,6 +3,7 @@ use Prim.Native.Nat.{ℕ}
 use mathlib.Core.Bool.{Bool, cond, false}
 use lib.Dec.{leb, ltb}
 use Rattle.timer.specs.declared.Reading.{Reading}
+use Rattle.timer.specs.Timers.{maxReading}
 
 abbrev pub within : ℕ → ℕ → ℕ → Bool
 within low x high = cond (leb low x) (leb x high) false
@@ -24,8 +25,5 @@ abbrev pub ownValid : ℕ → ℕ → Bool
 ownValid me n = ltb me n
 
 -- A clock reading is at most 9,223,372,036,854,775,807 ns.
-abbrev pub maxReading : ℕ
-maxReading = 9223372036854775807
-
 abbrev pub readingValid : Reading → Bool
 readingValid now = leb (now .0) maxReading

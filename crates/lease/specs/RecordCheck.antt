@@ -3,12 +3,11 @@ use Prim.Native.Nat.{ℕ, zero, suc, _+_}
 use mathlib.Core.Bool.{Bool, true, false, cond, not, _&&_, _||_}
 use mathlib.Core.List.{List}
 use lib.Dec.{eqb, leb, ltb}
-use Rattle.drift.specs.declared.Clock.{Clock}
-use Rattle.drift.specs.declared.Clock.the-variants.{True, Drifting}
-use Rattle.drift.specs.Drift.{isQuotient}
+use Rattle.drift.specs.Clocks.{isSettable}
 use Rattle.timer.specs.declared.Reading.{Reading}
 use Rattle.timer.specs.declared.Timer.{Timer}
 use Rattle.timer.specs.declared.Timer.the-variants.{Unarmed, Armed, Exploded}
+use Rattle.timer.specs.Timers.{farthest}
 use Rattle.lease.specs.declared.Entry.{Entry}
 use Rattle.lease.specs.declared.Entry.the-variants.{Absent, Present}
 use Rattle.lease.specs.declared.Grant.{Grant}
@@ -24,7 +23,7 @@ use Rattle.lease.specs.Limits.{timeoutValid, populationValid, ownValid, 
 
 -- A deadline is above the reading, and not over 3,000 s past it.
 abbrev pub deadlineValid : Reading → Reading → Bool
-deadlineValid now d = cond (ltb (now .0) (d .0)) (leb (d .0) (now .0 + 3000000000000)) false
+deadlineValid now d = cond (ltb (now .0) (d .0)) (leb (d .0) (now .0 + farthest)) false
 
 -- A sent guard is neither armed nor exploded.
 abbrev pub unarmed : Timer → Bool
@@ -87,15 +86,11 @@ rowsValid own n now rows (suc k) = rowsValid own n now rows k && rowValidAt own 
 
 -- ---- the record
 
--- Some drift setting gives the quotient.
-abbrev pub clockValid : Clock → Bool
-clockValid True = true
-clockValid (Drifting q) = isQuotient q
-
 -- T, population, own id and reading are within set-up's limits.
 unfoldable pub limitsValid : Manager → Bool
 limitsValid m = (timeoutValid (m .«expire_timeout») && populationValid (m .population)) && (ownValid (m .me) (m .population) && readingValid (m .now))
 
+-- And some drift setting gives the clock.
 unfoldable pub recordValid : Manager → Bool
 recordValid m =
-    (limitsValid m && rowsValid (m .me) (m .population) (m .now) (m .peers) capacity) && (clockValid (m .clock) && quietValid (m .now) (m .«quiet_timer»))
+    (limitsValid m && rowsValid (m .me) (m .population) (m .now) (m .peers) capacity) && (isSettable (m .clock) && quietValid (m .now) (m .«quiet_timer»))

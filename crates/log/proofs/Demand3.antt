@@ -10,8 +10,9 @@ use lib.ListN.{length-replicate, getD-replicate}
 use borrow.Author.Tests.{ltb-true, ltb-false, leb-true, eqb-true, lt-ltb, le-ltb, le-leb}
 use Rattle.bitmap.specs.Bitmaps.{bitmapOf}
 use Rattle.bitmap.specs.Sets.{one, countWhere}
+use Rattle.drift.specs.Clocks.{isSettable}
 use Rattle.timer.specs.declared.Reading.{Reading}
-use Rattle.timer.specs.Timers.{drifted}
+use Rattle.timer.specs.Timers.{maxReading, drifted}
 use Rattle.lease.specs.declared.QuietTimer.{QuietTimer}
 use Rattle.lease.specs.declared.QuietTimer.the-variants as Q
 use Rattle.lease.specs.declared.PeerSet.{PeerSet}
@@ -38,8 +39,8 @@ use Rattle.lease.specs.declared.AdvanceOutcome.the-variants as AO
 use Rattle.lease.specs.declared.PlainOutcome.the-variants as PO
 use Rattle.lease.specs.Rows.{rowAt, emptyRow, granted, activeEntry}
 use Rattle.lease.specs.Passes.{isFirst, passOver}
-use Rattle.lease.specs.Limits.{within, timeoutValid, populationValid, ownValid, readingValid, capacity, maxReading}
-use Rattle.lease.specs.RecordCheck.{rowEmpty, rowValidAt, rowsValid, clockValid, quietValid, limitsValid, recordValid}
+use Rattle.lease.specs.Limits.{within, timeoutValid, populationValid, ownValid, readingValid, capacity}
+use Rattle.lease.specs.RecordCheck.{rowEmpty, rowValidAt, rowsValid, quietValid, limitsValid, recordValid}
 use Rattle.lease.specs.Notices.{actedUnder, onPeer, handleNewGrants, handleDoRevoke, handleClearHeld, raisedTo, handleNotice, acceptedOf, outdated, numbered}
 use Rattle.lease.specs.Calls.{isQuiet, advanceTo, assumeUnknownGrants, attemptRefresh, setDrift, grantSet, leaseSet, leaseCnt}
 use Rattle.lease.specs.Rules.{grantSetOf, leaseSetOf, leaseCntOf, timeLeftOf, noticeGiven, noticeOf, advanceOf, quietOf, refreshOf, driftOf}
@@ -342,9 +343,9 @@ module _ (m : Manager) (j : Journal) (i : Inv m j) where
   record-valid : recordValid m ≡ true
   unfolding recordValid
   record-valid =
-      both (limitsValid m && rowsValid (m .me) n (m .now) (m .peers) 64) (clockValid (m .clock) && quietValid (m .now) (m .«quiet_timer»))
+      both (limitsValid m && rowsValid (m .me) n (m .now) (m .peers) 64) (isSettable (m .clock) && quietValid (m .now) (m .«quiet_timer»))
       (both (limitsValid m) (rowsValid (m .me) n (m .now) (m .peers) 64) limits-valid (rows-valid 64 (omega arith)))
-      (both (clockValid (m .clock)) (quietValid (m .now) (m .«quiet_timer»)) (i .clock-valid) quiet-valid)
+      (both (isSettable (m .clock)) (quietValid (m .now) (m .«quiet_timer»)) (i .clock-valid) quiet-valid)
 
   decided : LogDecides (m .me) n t m j
   unfolding grantSetOf leaseSetOf leaseCntOf

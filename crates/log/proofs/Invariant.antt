@@ -13,11 +13,11 @@ use borrow.Author.Tests.{ne-eqb, lt-ltb, le-ltb}
 use Rattle.bitmap.specs.declared.Bitmap.{Bitmap}
 use Rattle.bitmap.specs.Sets.{one}
 use Rattle.drift.specs.declared.Clock.{Clock}
-use Rattle.drift.specs.declared.Clock.the-variants as K
-use Rattle.drift.specs.Clocks.{driftedOn}
-use Rattle.drift.proofs.Laws.{found-at-most, found-above-zero, setting-found}
+use Rattle.drift.specs.Clocks.{isSettable}
+use Rattle.drift.specs.Claims.{longestInUse}
+use Rattle.drift.proofs.Laws.{clock-at-most, clock-above-zero, setting-found}
 use Rattle.timer.specs.declared.Reading.{Reading}
-use Rattle.timer.specs.Timers.{drifted}
+use Rattle.timer.specs.Timers.{maxReading, drifted}
 use Rattle.lease.specs.declared.QuietTimer.{QuietTimer}
 use Rattle.lease.specs.declared.QuietTimer.the-variants as Q
 use Rattle.lease.specs.declared.Peer.{Peer}
@@ -43,10 +43,8 @@ use Rattle.lease.specs.declared.DriftSetting.the-variants as D
 use Rattle.lease.specs.Tables.{below-done, below-rest, length-below}
 use Rattle.lease.specs.Rows.{rowAt, emptyRow}
 use Rattle.lease.specs.Passes.{named, passRow, rowAfter, passOver}
-use Rattle.lease.specs.RecordCheck.{clockValid}
 use Rattle.lease.specs.Notices.{outdated, termOf, withPeers, passOn, handledAt, onPeer, handleNewGrants, handleDoRevoke, handleClearHeld, raisedTo, handleNotice, acceptedOf}
 use Rattle.lease.specs.Calls.{quietAt, advanceTo, assumeUnknownGrants, refreshPass, attemptRefresh, clockOf, setDrift}
-use Rattle.lease.specs.Limits.{maxReading}
 use Rattle.lease.specs.Refusals.{peerRefusal, noticeRefusal}
 use Rattle.lease.specs.Verdicts.{drift, linesOf}
 use Rattle.log.specs.Demand3.{Typed}
@@ -56,21 +54,17 @@ use Rattle.log.proofs.LogFacts.{open-append, top-append, last-append, W
 use Rattle.log.proofs.RowFacts.{RowInv, peer-notice-row, peer-notice-about, new-grants-row, do-revoke-row, clear-held-row, higher-number-row, refresh-row, advance-row}
 use Rattle.log.proofs.Base as Base
 
--- ---- what is needed of drift
+-- ---- what is needed of drift: a setting's clock is one that the record check takes
 
-drift-above : (c : Clock) (d : ℕ) → clockValid c ≡ true → 100000000 ≤ d → d ≤ 20000000000 → 0 < drifted c d
-unfolding driftedOn
-drift-above K.True d k lo hi = omega arith
-drift-above (K.Drifting q) d k lo hi = found-above-zero q (subst T (sym k) tt) d (omega arith) hi
-
-drift-most : (c : Clock) (d : ℕ) → clockValid c ≡ true → d ≤ 20000000000 → drifted c d ≤ 100 * d
-unfolding driftedOn
-drift-most K.True d k hi = omega arith
-drift-most (K.Drifting q) d k hi = found-at-most q (subst T (sym k) tt) d hi
-
-setting-valid : (x : DriftSetting) → Typed (drift x) → clockValid (clockOf x) ≡ true
+setting-valid : (x : DriftSetting) → Typed (drift x) → isSettable (clockOf x) ≡ true
 setting-valid D.True f = refl
 setting-valid (D.Drifting d) f = setting-found d f
+
+above-zero : (c : Clock) (d : ℕ) → isSettable c ≡ true → 100000000 ≤ d → d ≤ longestInUse → 0 < drifted c d
+above-zero c d k lo hi = clock-above-zero c (subst T (sym k) tt) d (omega arith) hi
+
+at-most-hundredfold : (c : Clock) (d : ℕ) → isSettable c ≡ true → d ≤ longestInUse → drifted c d ≤ 100 * d
+at-most-hundredfold c d k hi = clock-at-most c (subst T (sym k) tt) d hi
 
 -- ---- THE INVARIANT
 
@@ -95,7 +89,7 @@ QuietOk t now (Q.Until d) (since r c) = (d .0 ≡ r .0 + drifted c (2 * t)) × (
 pub record Inv (m : Manager) (j : Journal) : Type 0 where
   pub sized : length (m .peers) ≡ 64
   pub limits : Limits (m .«expire_timeout») (m .population) (m .me) (m .now)
-  pub clock-valid : clockValid (m .clock) ≡ true
+  pub clock-valid : isSettable (m .clock) ≡ true
   pub same-now : j .now ≡ m .now
   pub same-clock : j .clock ≡ m .clock
   pub quiet-ok : QuietOk (m .«expire_timeout») (m .now) (m .«quiet_timer») (j .quiet)
@@ -297,8 +291,8 @@ module _ (m : Manager) (j : Journal) (i : Inv m j) where
       at-q = moved t (m .now) (getD-set-same (m .peers) q (st .peer) emptyRow (in-rows q lq))
           (open-append q (j .log) ys ∙ rw (ended-own (m .«active_num») (m .now) (m .clock) q ds about, open-own (m .«active_num») (m .now) (m .clock) q ds about))
           (last-here q ∙ last-own (m .«active_num») (m .now) (m .clock) q ds about (H q))
-          (peer-notice-row t (m .now) (m .clock) q (drift-above (m .clock) t (i .clock-valid) lo (omega arith)) (omega (arith, drift-most (m .clock) t (i .clock-valid) (omega arith)))
-          (drift-above (m .clock) (2 * t) (i .clock-valid) (omega arith) (omega arith)) (omega (arith, drift-most (m .clock) (2 * t) (i .clock-valid) (omega arith)))
+          (peer-notice-row t (m .now) (m .clock) q (above-zero (m .clock) t (i .clock-valid) lo (omega arith)) (omega (arith, at-most-hundredfold (m .clock) t (i .clock-valid) (omega arith)))
+          (above-zero (m .clock) (2 * t) (i .clock-valid) (omega arith) (omega arith)) (omega (arith, at-most-hundredfold (m .clock) (2 * t) (i .clock-valid) (omega arith)))
           w (R q) (O q) (H q) (i .rows q lq))
 
       go : (p : ℕ) → p < 64 → Same q p → RowInv t (m .now) (rowAt (set (m .peers) q (st .peer)) p) (openLines p (j .log ++ ys)) (lastHeld p (j .log ++ ys))
@@ -458,8 +452,8 @@ quiet-inv m j i = record {
   same-now = i .same-now;
   same-clock = i .same-clock;
   quiet-ok =
-      let p = drift-above (m .clock) (2 * m .«expire_timeout») (i .clock-valid) (let x = i .limits .low in omega arith) (let x = i .limits .high in omega arith) in
-      let b = drift-most (m .clock) (2 * m .«expire_timeout») (i .clock-valid) (let x = i .limits .high in omega arith) in
+      let p = above-zero (m .clock) (2 * m .«expire_timeout») (i .clock-valid) (let x = i .limits .low in omega arith) (let x = i .limits .high in omega arith) in
+      let b = at-most-hundredfold (m .clock) (2 * m .«expire_timeout») (i .clock-valid) (let x = i .limits .high in omega arith) in
       let x = i .limits .high in
       (rw (i .same-now, i .same-clock), omega arith, omega arith);
   top = i .top;
@@ -488,5 +482,5 @@ unfolding attemptRefresh
 refresh-inv m j i set =
     passed-silent m j i (refreshPass m set)
     (λ p h. refresh-row (m .«expire_timeout») (m .now) (drifted (m .clock) (m .«expire_timeout»)) (named set p)
-    (let x = i .limits .high in omega (arith, drift-most (m .clock) (m .«expire_timeout») (i .clock-valid) (omega arith)))
+    (let x = i .limits .high in omega (arith, at-most-hundredfold (m .clock) (m .«expire_timeout») (i .clock-valid) (omega arith)))
     (rowAt (m .peers) p) (openLines p (j .log)) (lastHeld p (j .log)) (i .rows p h))

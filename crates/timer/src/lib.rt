@@ -1,13 +1,22 @@
-// Timers over a clock reading (the Rust's src/utils/timer.rs, with no sleeper).
+// Timers over a clock reading: the Rust's src/utils/timer.rs with no sleeper task. The caller says
+// what time it is. Every contract says that the result equals a definition of specs/Timers.antt.
+// Only the functions that add to a reading have a `requires`: that the sum fits 64 bits.
 use drift::Clock;
 use drift::clock_drifted;
 ghost use mathlib.Core.Path.{_≡_};
-ghost use Prim.Native.Nat.{_≤_};
-ghost use Rattle.timer.specs.Timers.{drifted, kickedOff, extendedBy, isActive, isExploded, expiredAt, msLeft, Near};
+ghost use Prim.Native.Nat.{_≤_, max};
+ghost use Rattle.drift.specs.Drift.{longest};
+ghost use Rattle.timer.specs.Timers.{maxReading, Near, drifted, kickedOff, extendedBy, isActive, isExploded, msLeft, expiredAt};
 
-// Nanoseconds.
+// The largest clock reading.
+pub const MAX_READING: u64 = 9_223_372_036_854_775_807;
+
+const NANOS_PER_MILLI: u64 = 1_000_000;
+
+// A clock reading in ns.
 pub struct Reading(pub u64);
 
+// A timer armed with a deadline holds the reading at which it explodes.
 pub enum Timer {
     Unarmed,
     Armed(Reading),
@@ -20,27 +29,32 @@ pub struct Expired {
     pub fired: bool,
 }
 
-// A duration as the clock has it: T or 2T, at most 20 s.
+// A duration in ns as the clock has it. Whatever f64 the clock drifts by, no duration grows beyond
+// 2 ^ 20 s, so that a reading plus a drifted duration fits.
 pub fn drift_of(clock: Clock, ns: u64) -> u64
-    requires { ⌜ ns ≤ 20000000000 ⌝ }
-    ensures { λ r. ⌜ (r ≡ drifted clock ns) × (r ≤ 1048576000000000) ⌝ }
+    ensures drifts { λ r. ⌜ r ≡ drifted clock ns ⌝ }
+    ensures small { λ r. ⌜ r ≤ max ns longest ⌝ }
 {
     let d = clock_drifted(clock, ns);
     d.ns
 }
 
+// A timer set to now + the drifted duration, whatever it was before.
 pub fn kickoff(clock: Clock, now: Reading, ns: u64) -> Timer
-    requires { ⌜ now .0 ≤ 9223372036854775807 ⌝ }
-    requires { ⌜ ns ≤ 20000000000 ⌝ }
+    requires { ⌜ now .0 ≤ maxReading ⌝ }
+    requires { ⌜ ns ≤ maxReading ⌝ }
     ensures { λ r. ⌜ r ≡ kickedOff clock now ns ⌝ }
 {
     let by = drift_of(clock, ns);
-    Timer::Armed(Reading(now.0 + by))
+    let deadline = now.0 + by;
+    Timer::Armed(Reading(deadline))
 }
 
+// A timer's deadline put off by a duration that is drifted already: from now on, if it is past or
+// there is none. An exploded timer stays as it is, since what it timed has ended.
 pub fn extend(now: Reading, by: u64, timer: Timer) -> Timer
-    requires { ⌜ now .0 ≤ 9223372036854775807 ⌝ }
-    requires { ⌜ by ≤ 1048576000000000 ⌝ }
+    requires { ⌜ now .0 ≤ maxReading ⌝ }
+    requires { ⌜ by ≤ longest ⌝ }
     requires { ⌜ Near now timer ⌝ }
     ensures { λ r. ⌜ r ≡ extendedBy now by timer ⌝ }
 {
@@ -57,6 +71,7 @@ pub fn extend(now: Reading, by: u64, timer: Timer) -> Timer
     }
 }
 
+// Whether the timer is armed with a deadline above now.
 pub fn active(now: Reading, timer: Timer) -> bool
     ensures { λ r. ⌜ r ≡ isActive now timer ⌝ }
 {
@@ -67,6 +82,7 @@ pub fn active(now: Reading, timer: Timer) -> bool
     }
 }
 
+// Whether the timer has exploded since it was last kicked off.
 pub fn exploded(timer: Timer) -> bool
     ensures { λ r. ⌜ r ≡ isExploded timer ⌝ }
 {
@@ -77,6 +93,7 @@ pub fn exploded(timer: Timer) -> bool
     }
 }
 
+// The timer at a reading: it fires if it is armed and its deadline is not above the reading.
 pub fn expire(now: Reading, timer: Timer) -> Expired
     ensures { λ r. ⌜ r ≡ expiredAt now timer ⌝ }
 {
@@ -105,16 +122,17 @@ pub fn expire(now: Reading, timer: Timer) -> Expired
     }
 }
 
+// Deadline minus now in whole milliseconds, rounded down; 0 if the timer has run out or has none.
 pub fn left_ms(now: Reading, timer: Timer) -> u64
     ensures { λ r. ⌜ r ≡ msLeft now timer ⌝ }
 {
     match timer {
         Timer::Unarmed => 0,
         Timer::Armed(deadline) => {
-            if deadline.0 <= now.0 {
-                0
+            if now.0 < deadline.0 {
+                (deadline.0 - now.0) / NANOS_PER_MILLI
             } else {
-                (deadline.0 - now.0) / 1000000
+                0
             }
         }
         Timer::Exploded => 0,
