@@ -1,3 +1,4 @@
 pub mod Shift
 pub mod Slips
 pub mod Edges
+pub mod Branches

@@ -13,3 +13,4 @@ pub mod Verdicts
 pub mod Shift
 pub mod Slips
 pub mod Edges
+pub mod Branches

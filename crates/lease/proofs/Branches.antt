@@ -1,0 +1,35 @@
+-- The branches of the rules and the record check, by computation. Assumes nothing.
+use mathlib.Core.Path.{refl}
+use lib.Ieee.{ofInt, add, mul, div, eq}
+use Rattle.bitmap.specs.Sets.{idsWhere, countWhere}
+use Rattle.drift.specs.Clocks.{driftedOn}
+use Rattle.drift.specs.Drift.{rateOf, ratio, givenUpTo, secondsOf, nsOf, productOf, driftedBy}
+use Rattle.lease.specs.Tables.{below}
+use Rattle.lease.specs.Handlers.{handleMsg, handlePeerNotice}
+use Rattle.lease.specs.Passes.{passOver}
+use Rattle.lease.specs.Notices.{onPeer, handleNewGrants, handleDoRevoke, handleClearHeld, handleNotice, raisedTo, acceptedOf}
+use Rattle.lease.specs.Calls.{advanceTo, assumeUnknownGrants, attemptRefresh, setDrift, grantSet, leaseSet, leaseCnt}
+use Rattle.lease.specs.RecordCheck.{rowValid, rowEmpty, rowValidAt, rowsValid, limitsValid, recordValid}
+use Rattle.lease.specs.SetUp.{fresh, setupOf}
+use Rattle.lease.specs.Rules.{noticeOf, advanceOf, quietOf, refreshOf, driftOf, grantSetOf, leaseSetOf, leaseCntOf, timeLeftOf}
+use Rattle.lease.specs.Branches.{heldAsks, heldAnswers, sentAsks, sentAnswers, numberAsks, numberAnswers, wrongRecords, rightRecords, HeldBranches, SentBranches, NumberBranches, WrongRecords, RightRecords}
+
+pub held-branches : HeldBranches
+unfolding heldAsks heldAnswers idsWhere countWhere below driftedOn rateOf ratio givenUpTo secondsOf nsOf productOf driftedBy ofInt add mul div eq passOver rowValid rowEmpty rowValidAt rowsValid limitsValid recordValid handleMsg handlePeerNotice onPeer handleNewGrants handleDoRevoke handleClearHeld handleNotice raisedTo acceptedOf advanceTo assumeUnknownGrants attemptRefresh setDrift grantSet leaseSet leaseCnt grantSetOf leaseSetOf leaseCntOf timeLeftOf fresh setupOf noticeOf advanceOf quietOf refreshOf driftOf
+held-branches = refl
+
+pub sent-branches : SentBranches
+unfolding sentAsks sentAnswers idsWhere countWhere below driftedOn rateOf ratio givenUpTo secondsOf nsOf productOf driftedBy ofInt add mul div eq passOver rowValid rowEmpty rowValidAt rowsValid limitsValid recordValid handleMsg handlePeerNotice onPeer handleNewGrants handleDoRevoke handleClearHeld handleNotice raisedTo acceptedOf advanceTo assumeUnknownGrants attemptRefresh setDrift grantSet leaseSet leaseCnt grantSetOf leaseSetOf leaseCntOf timeLeftOf fresh setupOf noticeOf advanceOf quietOf refreshOf driftOf
+sent-branches = refl
+
+pub number-branches : NumberBranches
+unfolding numberAsks numberAnswers idsWhere countWhere below driftedOn rateOf ratio givenUpTo secondsOf nsOf productOf driftedBy ofInt add mul div eq passOver rowValid rowEmpty rowValidAt rowsValid limitsValid recordValid handleMsg handlePeerNotice onPeer handleNewGrants handleDoRevoke handleClearHeld handleNotice raisedTo acceptedOf advanceTo assumeUnknownGrants attemptRefresh setDrift grantSet leaseSet leaseCnt grantSetOf leaseSetOf leaseCntOf timeLeftOf fresh setupOf noticeOf advanceOf quietOf refreshOf driftOf
+number-branches = refl
+
+pub wrong-records : WrongRecords
+unfolding wrongRecords idsWhere countWhere below driftedOn rateOf ratio givenUpTo secondsOf nsOf productOf driftedBy ofInt add mul div eq passOver rowValid rowEmpty rowValidAt rowsValid limitsValid recordValid handleMsg handlePeerNotice onPeer handleNewGrants handleDoRevoke handleClearHeld handleNotice raisedTo acceptedOf advanceTo assumeUnknownGrants attemptRefresh setDrift grantSet leaseSet leaseCnt grantSetOf leaseSetOf leaseCntOf timeLeftOf fresh setupOf noticeOf advanceOf quietOf refreshOf driftOf
+wrong-records = refl
+
+pub right-records : RightRecords
+unfolding rightRecords idsWhere countWhere below driftedOn rateOf ratio givenUpTo secondsOf nsOf productOf driftedBy ofInt add mul div eq passOver rowValid rowEmpty rowValidAt rowsValid limitsValid recordValid handleMsg handlePeerNotice onPeer handleNewGrants handleDoRevoke handleClearHeld handleNotice raisedTo acceptedOf advanceTo assumeUnknownGrants attemptRefresh setDrift grantSet leaseSet leaseCnt grantSetOf leaseSetOf leaseCntOf timeLeftOf fresh setupOf noticeOf advanceOf quietOf refreshOf driftOf
+right-records = refl
