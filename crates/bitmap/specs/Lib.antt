@@ -1,2 +1,4 @@
 pub mod Sets
 pub mod Bitmaps
+pub mod Rules
+pub mod Operations

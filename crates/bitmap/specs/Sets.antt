@@ -1,12 +1,12 @@
 -- Sets of ids as numbers: id i as 2 to the i.
 use Prim.Native.Nat.{ℕ, zero, suc, _+_, _/_, _%_, _^_, _<_, _≤_}
 use mathlib.Core.Bool.{Bool, true, false}
-use mathlib.Core.Path.{_≡_, refl, sym, ap}
+use mathlib.Core.Path.{_≡_, refl}
 use native.Mathlib.Nat.{two-pow-succ}
 use native.Mathlib.Numerals.{add-one}
 use native.Mathlib.Omega.{arith}
 use lib.Dec.{eqb}
-use lib.Pow.{pow-pos, pow-mono}
+use lib.Pow.{pow-mono}
 
 abbrev pub member : ℕ → ℕ → Bool
 member s i = eqb ((s / 2 ^ i) % 2) 1
@@ -55,7 +55,7 @@ pub countWhere-more : (p : ℕ → Bool) (n : ℕ) → countWhere p n + one (p n
 unfolding countWhere
 countWhere-more p n = rw add-one
 
-one-le : (b : Bool) → one b ≤ 1
+pub one-le : (b : Bool) → one b ≤ 1
 one-le true = omega arith
 one-le false = omega arith
 

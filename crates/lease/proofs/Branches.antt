@@ -2,6 +2,7 @@
 use mathlib.Core.Path.{refl}
 use lib.Ieee.{ofInt, add, mul, div, eq}
 use Rattle.bitmap.specs.Sets.{idsWhere, countWhere}
+use Rattle.bitmap.specs.Operations.{badSize}
 use Rattle.drift.specs.Clocks.{driftedOn}
 use Rattle.drift.specs.Drift.{rateOf, ratio, givenUpTo, secondsOf, nsOf, productOf, driftedBy}
 use Rattle.lease.specs.Tables.{below}
@@ -15,21 +16,21 @@ use Rattle.lease.specs.Rules.{noticeOf, advanceOf, quietOf, refreshOf, d
 use Rattle.lease.specs.Branches.{heldAsks, heldAnswers, sentAsks, sentAnswers, numberAsks, numberAnswers, wrongRecords, rightRecords, HeldBranches, SentBranches, NumberBranches, WrongRecords, RightRecords}
 
 pub held-branches : HeldBranches
-unfolding heldAsks heldAnswers idsWhere countWhere below driftedOn rateOf ratio givenUpTo secondsOf nsOf productOf driftedBy ofInt add mul div eq passOver rowValid rowEmpty rowValidAt rowsValid limitsValid recordValid handleMsg handlePeerNotice onPeer handleNewGrants handleDoRevoke handleClearHeld handleNotice raisedTo acceptedOf advanceTo assumeUnknownGrants attemptRefresh setDrift grantSet leaseSet leaseCnt grantSetOf leaseSetOf leaseCntOf timeLeftOf fresh setupOf noticeOf advanceOf quietOf refreshOf driftOf
+unfolding heldAsks heldAnswers idsWhere countWhere badSize below driftedOn rateOf ratio givenUpTo secondsOf nsOf productOf driftedBy ofInt add mul div eq passOver rowValid rowEmpty rowValidAt rowsValid limitsValid recordValid handleMsg handlePeerNotice onPeer handleNewGrants handleDoRevoke handleClearHeld handleNotice raisedTo acceptedOf advanceTo assumeUnknownGrants attemptRefresh setDrift grantSet leaseSet leaseCnt grantSetOf leaseSetOf leaseCntOf timeLeftOf fresh setupOf noticeOf advanceOf quietOf refreshOf driftOf
 held-branches = refl
 
 pub sent-branches : SentBranches
-unfolding sentAsks sentAnswers idsWhere countWhere below driftedOn rateOf ratio givenUpTo secondsOf nsOf productOf driftedBy ofInt add mul div eq passOver rowValid rowEmpty rowValidAt rowsValid limitsValid recordValid handleMsg handlePeerNotice onPeer handleNewGrants handleDoRevoke handleClearHeld handleNotice raisedTo acceptedOf advanceTo assumeUnknownGrants attemptRefresh setDrift grantSet leaseSet leaseCnt grantSetOf leaseSetOf leaseCntOf timeLeftOf fresh setupOf noticeOf advanceOf quietOf refreshOf driftOf
+unfolding sentAsks sentAnswers idsWhere countWhere badSize below driftedOn rateOf ratio givenUpTo secondsOf nsOf productOf driftedBy ofInt add mul div eq passOver rowValid rowEmpty rowValidAt rowsValid limitsValid recordValid handleMsg handlePeerNotice onPeer handleNewGrants handleDoRevoke handleClearHeld handleNotice raisedTo acceptedOf advanceTo assumeUnknownGrants attemptRefresh setDrift grantSet leaseSet leaseCnt grantSetOf leaseSetOf leaseCntOf timeLeftOf fresh setupOf noticeOf advanceOf quietOf refreshOf driftOf
 sent-branches = refl
 
 pub number-branches : NumberBranches
-unfolding numberAsks numberAnswers idsWhere countWhere below driftedOn rateOf ratio givenUpTo secondsOf nsOf productOf driftedBy ofInt add mul div eq passOver rowValid rowEmpty rowValidAt rowsValid limitsValid recordValid handleMsg handlePeerNotice onPeer handleNewGrants handleDoRevoke handleClearHeld handleNotice raisedTo acceptedOf advanceTo assumeUnknownGrants attemptRefresh setDrift grantSet leaseSet leaseCnt grantSetOf leaseSetOf leaseCntOf timeLeftOf fresh setupOf noticeOf advanceOf quietOf refreshOf driftOf
+unfolding numberAsks numberAnswers idsWhere countWhere badSize below driftedOn rateOf ratio givenUpTo secondsOf nsOf productOf driftedBy ofInt add mul div eq passOver rowValid rowEmpty rowValidAt rowsValid limitsValid recordValid handleMsg handlePeerNotice onPeer handleNewGrants handleDoRevoke handleClearHeld handleNotice raisedTo acceptedOf advanceTo assumeUnknownGrants attemptRefresh setDrift grantSet leaseSet leaseCnt grantSetOf leaseSetOf leaseCntOf timeLeftOf fresh setupOf noticeOf advanceOf quietOf refreshOf driftOf
 number-branches = refl
 
 pub wrong-records : WrongRecords
-unfolding wrongRecords idsWhere countWhere below driftedOn rateOf ratio givenUpTo secondsOf nsOf productOf driftedBy ofInt add mul div eq passOver rowValid rowEmpty rowValidAt rowsValid limitsValid recordValid handleMsg handlePeerNotice onPeer handleNewGrants handleDoRevoke handleClearHeld handleNotice raisedTo acceptedOf advanceTo assumeUnknownGrants attemptRefresh setDrift grantSet leaseSet leaseCnt grantSetOf leaseSetOf leaseCntOf timeLeftOf fresh setupOf noticeOf advanceOf quietOf refreshOf driftOf
+unfolding wrongRecords idsWhere countWhere badSize below driftedOn rateOf ratio givenUpTo secondsOf nsOf productOf driftedBy ofInt add mul div eq passOver rowValid rowEmpty rowValidAt rowsValid limitsValid recordValid handleMsg handlePeerNotice onPeer handleNewGrants handleDoRevoke handleClearHeld handleNotice raisedTo acceptedOf advanceTo assumeUnknownGrants attemptRefresh setDrift grantSet leaseSet leaseCnt grantSetOf leaseSetOf leaseCntOf timeLeftOf fresh setupOf noticeOf advanceOf quietOf refreshOf driftOf
 wrong-records = refl
 
 pub right-records : RightRecords
-unfolding rightRecords idsWhere countWhere below driftedOn rateOf ratio givenUpTo secondsOf nsOf productOf driftedBy ofInt add mul div eq passOver rowValid rowEmpty rowValidAt rowsValid limitsValid recordValid handleMsg handlePeerNotice onPeer handleNewGrants handleDoRevoke handleClearHeld handleNotice raisedTo acceptedOf advanceTo assumeUnknownGrants attemptRefresh setDrift grantSet leaseSet leaseCnt grantSetOf leaseSetOf leaseCntOf timeLeftOf fresh setupOf noticeOf advanceOf quietOf refreshOf driftOf
+unfolding rightRecords idsWhere countWhere badSize below driftedOn rateOf ratio givenUpTo secondsOf nsOf productOf driftedBy ofInt add mul div eq passOver rowValid rowEmpty rowValidAt rowsValid limitsValid recordValid handleMsg handlePeerNotice onPeer handleNewGrants handleDoRevoke handleClearHeld handleNotice raisedTo acceptedOf advanceTo assumeUnknownGrants attemptRefresh setDrift grantSet leaseSet leaseCnt grantSetOf leaseSetOf leaseCntOf timeLeftOf fresh setupOf noticeOf advanceOf quietOf refreshOf driftOf
 right-records = refl

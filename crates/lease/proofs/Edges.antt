@@ -6,6 +6,7 @@ use native.Mathlib.Omega.{arith}
 use lib.ListN.{length}
 use lib.Ieee.{ofInt, add, mul, div, eq}
 use Rattle.bitmap.specs.Sets.{idsWhere, countWhere}
+use Rattle.bitmap.specs.Operations.{badSize}
 use Rattle.drift.specs.Clocks.{driftedOn}
 use Rattle.drift.specs.Drift.{rateOf, ratio, givenUpTo, secondsOf, nsOf, productOf, driftedBy}
 use Rattle.lease.specs.declared.Lines.{Lines}
@@ -22,15 +23,15 @@ use Rattle.lease.specs.Verdicts.{linesOf}
 use Rattle.lease.specs.Edges.{farCalls, refusalAsks, refusalAnswers, farAt, FarReached, FarAccepted, BeyondRefused, Refusals, SetUpRefusals, AtMostThree}
 
 pub far-reached : FarReached
-unfolding farCalls idsWhere countWhere below driftedOn rateOf ratio givenUpTo secondsOf nsOf productOf driftedBy ofInt add mul div eq passOver rowValid rowEmpty rowValidAt rowsValid limitsValid recordValid handleMsg handlePeerNotice onPeer handleNewGrants handleDoRevoke handleClearHeld handleNotice raisedTo acceptedOf advanceTo assumeUnknownGrants attemptRefresh setDrift grantSet leaseSet leaseCnt grantSetOf leaseSetOf leaseCntOf timeLeftOf fresh setupOf noticeOf advanceOf quietOf refreshOf driftOf
+unfolding farCalls idsWhere countWhere badSize below driftedOn rateOf ratio givenUpTo secondsOf nsOf productOf driftedBy ofInt add mul div eq passOver rowValid rowEmpty rowValidAt rowsValid limitsValid recordValid handleMsg handlePeerNotice onPeer handleNewGrants handleDoRevoke handleClearHeld handleNotice raisedTo acceptedOf advanceTo assumeUnknownGrants attemptRefresh setDrift grantSet leaseSet leaseCnt grantSetOf leaseSetOf leaseCntOf timeLeftOf fresh setupOf noticeOf advanceOf quietOf refreshOf driftOf
 far-reached = refl
 
 pub far-accepted : FarAccepted
-unfolding farCalls idsWhere countWhere below driftedOn rateOf ratio givenUpTo secondsOf nsOf productOf driftedBy ofInt add mul div eq passOver rowValid rowEmpty rowValidAt rowsValid limitsValid recordValid handleMsg handlePeerNotice onPeer handleNewGrants handleDoRevoke handleClearHeld handleNotice raisedTo acceptedOf advanceTo assumeUnknownGrants attemptRefresh setDrift grantSet leaseSet leaseCnt grantSetOf leaseSetOf leaseCntOf timeLeftOf fresh setupOf noticeOf advanceOf quietOf refreshOf driftOf
+unfolding farCalls idsWhere countWhere badSize below driftedOn rateOf ratio givenUpTo secondsOf nsOf productOf driftedBy ofInt add mul div eq passOver rowValid rowEmpty rowValidAt rowsValid limitsValid recordValid handleMsg handlePeerNotice onPeer handleNewGrants handleDoRevoke handleClearHeld handleNotice raisedTo acceptedOf advanceTo assumeUnknownGrants attemptRefresh setDrift grantSet leaseSet leaseCnt grantSetOf leaseSetOf leaseCntOf timeLeftOf fresh setupOf noticeOf advanceOf quietOf refreshOf driftOf
 far-accepted = refl
 
 beyond : recordValid (farAt 3000000000001) ≡ false
-unfolding farCalls idsWhere countWhere below driftedOn rateOf ratio givenUpTo secondsOf nsOf productOf driftedBy ofInt add mul div eq passOver rowValid rowEmpty rowValidAt rowsValid limitsValid recordValid handleMsg handlePeerNotice onPeer handleNewGrants handleDoRevoke handleClearHeld handleNotice raisedTo acceptedOf advanceTo assumeUnknownGrants attemptRefresh setDrift grantSet leaseSet leaseCnt grantSetOf leaseSetOf leaseCntOf timeLeftOf fresh setupOf noticeOf advanceOf quietOf refreshOf driftOf
+unfolding farCalls idsWhere countWhere badSize below driftedOn rateOf ratio givenUpTo secondsOf nsOf productOf driftedBy ofInt add mul div eq passOver rowValid rowEmpty rowValidAt rowsValid limitsValid recordValid handleMsg handlePeerNotice onPeer handleNewGrants handleDoRevoke handleClearHeld handleNotice raisedTo acceptedOf advanceTo assumeUnknownGrants attemptRefresh setDrift grantSet leaseSet leaseCnt grantSetOf leaseSetOf leaseCntOf timeLeftOf fresh setupOf noticeOf advanceOf quietOf refreshOf driftOf
 beyond = refl
 
 pub beyond-refused : BeyondRefused
@@ -38,7 +39,7 @@ unfolding noticeOf
 beyond-refused num x = rw beyond
 
 pub refusals : Refusals
-unfolding refusalAsks refusalAnswers idsWhere countWhere below driftedOn rateOf ratio givenUpTo secondsOf nsOf productOf driftedBy ofInt add mul div passOver rowValid rowEmpty rowValidAt rowsValid limitsValid recordValid handleMsg handlePeerNotice onPeer handleNewGrants handleDoRevoke handleClearHeld handleNotice raisedTo acceptedOf advanceTo assumeUnknownGrants attemptRefresh setDrift grantSet leaseSet leaseCnt grantSetOf leaseSetOf leaseCntOf timeLeftOf fresh setupOf noticeOf advanceOf quietOf refreshOf driftOf
+unfolding refusalAsks refusalAnswers idsWhere countWhere badSize below driftedOn rateOf ratio givenUpTo secondsOf nsOf productOf driftedBy ofInt add mul div passOver rowValid rowEmpty rowValidAt rowsValid limitsValid recordValid handleMsg handlePeerNotice onPeer handleNewGrants handleDoRevoke handleClearHeld handleNotice raisedTo acceptedOf advanceTo assumeUnknownGrants attemptRefresh setDrift grantSet leaseSet leaseCnt grantSetOf leaseSetOf leaseCntOf timeLeftOf fresh setupOf noticeOf advanceOf quietOf refreshOf driftOf
 refusals = refl
 
 pub setup-refusals : SetUpRefusals

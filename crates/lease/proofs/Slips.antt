@@ -2,6 +2,7 @@
 use mathlib.Core.Path.{refl}
 use lib.Ieee.{ofInt, add, mul, div, eq}
 use Rattle.bitmap.specs.Sets.{idsWhere, countWhere}
+use Rattle.bitmap.specs.Operations.{badSize}
 use Rattle.drift.specs.Clocks.{driftedOn}
 use Rattle.drift.specs.Drift.{rateOf, ratio, givenUpTo, secondsOf, nsOf, productOf, driftedBy}
 use Rattle.lease.specs.Tables.{below}
@@ -15,5 +16,5 @@ use Rattle.lease.specs.Rules.{noticeOf, advanceOf, quietOf, refreshOf, d
 use Rattle.lease.specs.Slips.{slipAsks, slipAnswers, SlipsAvoided}
 
 pub slips-avoided : SlipsAvoided
-unfolding slipAsks slipAnswers idsWhere countWhere below driftedOn rateOf ratio givenUpTo secondsOf nsOf productOf driftedBy ofInt add mul div eq passOver rowValid rowEmpty rowValidAt rowsValid limitsValid recordValid handleMsg handlePeerNotice onPeer handleNewGrants handleDoRevoke handleClearHeld handleNotice raisedTo acceptedOf advanceTo assumeUnknownGrants attemptRefresh setDrift grantSet leaseSet leaseCnt grantSetOf leaseSetOf leaseCntOf timeLeftOf fresh setupOf noticeOf advanceOf quietOf refreshOf driftOf
+unfolding slipAsks slipAnswers idsWhere countWhere badSize below driftedOn rateOf ratio givenUpTo secondsOf nsOf productOf driftedBy ofInt add mul div eq passOver rowValid rowEmpty rowValidAt rowsValid limitsValid recordValid handleMsg handlePeerNotice onPeer handleNewGrants handleDoRevoke handleClearHeld handleNotice raisedTo acceptedOf advanceTo assumeUnknownGrants attemptRefresh setDrift grantSet leaseSet leaseCnt grantSetOf leaseSetOf leaseCntOf timeLeftOf fresh setupOf noticeOf advanceOf quietOf refreshOf driftOf
 slips-avoided = refl

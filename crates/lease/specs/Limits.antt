@@ -2,6 +2,7 @@
 use Prim.Native.Nat.{ℕ}
 use mathlib.Core.Bool.{Bool, cond, false}
 use lib.Dec.{leb, ltb}
+use Rattle.bitmap.specs.Bitmaps.{capacity}
 use Rattle.timer.specs.declared.Reading.{Reading}
 use Rattle.timer.specs.Timers.{maxReading}
 
@@ -12,11 +13,7 @@ within low x high = cond (leb low x) (leb x high) false
 abbrev pub timeoutValid : ℕ → Bool
 timeoutValid t = within 100000000 t 10000000000
 
--- Ids and rows that a record has room for.
-abbrev pub capacity : ℕ
-capacity = 64
-
--- Population is 1 to 64.
+-- Population is 1 to 64, the ids that a set and the record have room for.
 abbrev pub populationValid : ℕ → Bool
 populationValid n = within 1 n capacity
 

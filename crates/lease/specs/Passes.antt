@@ -2,9 +2,9 @@
 use Prim.Native.Nat.{ℕ}
 use mathlib.Core.Bool.{Bool, true, false, cond, not, _&&_, _||_}
 use mathlib.Core.List.{List}
-use lib.Dec.{eqb, ltb}
-use Rattle.bitmap.specs.Sets.{member, countWhere}
-use Rattle.bitmap.specs.Bitmaps.{number, bitmapWhere}
+use lib.Dec.{eqb}
+use Rattle.bitmap.specs.Sets.{countWhere}
+use Rattle.bitmap.specs.Bitmaps.{bitmapWhere, isOne}
 use Rattle.timer.specs.declared.Reading.{Reading}
 use Rattle.timer.specs.declared.Timer.the-variants.{Unarmed}
 use Rattle.timer.specs.Timers.{isExploded, expiredAt, extendedBy}
@@ -22,10 +22,10 @@ use Rattle.lease.specs.declared.Passed.{Passed}
 use Rattle.lease.specs.Tables.{below}
 use Rattle.lease.specs.Rows.{rowAt, withHeld, withSent, granted, activeEntry}
 
--- No set means all. Ones at or above a set's size count as zeros.
+-- No set means all.
 abbrev pub named : PeerSet → ℕ → Bool
 named All i = true
-named (Of b) i = cond (ltb i (b .size)) (member (number b) i) false
+named (Of b) i = isOne b i
 
 -- The row in none of the pass's sets, and in the first if `is` says so.
 abbrev pub inNone : Peer → Visit

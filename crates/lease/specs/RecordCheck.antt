@@ -3,6 +3,7 @@ use Prim.Native.Nat.{ℕ, zero, suc, _+_}
 use mathlib.Core.Bool.{Bool, true, false, cond, not, _&&_, _||_}
 use mathlib.Core.List.{List}
 use lib.Dec.{eqb, leb, ltb}
+use Rattle.bitmap.specs.Bitmaps.{capacity}
 use Rattle.drift.specs.Clocks.{isSettable}
 use Rattle.timer.specs.declared.Reading.{Reading}
 use Rattle.timer.specs.declared.Timer.{Timer}
@@ -17,7 +18,7 @@ use Rattle.lease.specs.declared.QuietTimer.{QuietTimer}
 use Rattle.lease.specs.declared.QuietTimer.the-variants as Q
 use Rattle.lease.specs.declared.Manager.{Manager}
 use Rattle.lease.specs.Rows.{rowAt, present, granted}
-use Rattle.lease.specs.Limits.{timeoutValid, populationValid, ownValid, readingValid, capacity}
+use Rattle.lease.specs.Limits.{timeoutValid, populationValid, ownValid, readingValid}
 
 -- ---- timers
 

@@ -2,12 +2,13 @@
 use Prim.Native.Nat.{ℕ}
 use mathlib.Core.Bool.{Bool, true, false, cond, not}
 use lib.Dec.{eqb, leb, ltb}
+use Rattle.bitmap.specs.Operations.{badSize}
 use Rattle.timer.specs.declared.Reading.{Reading}
 use Rattle.lease.specs.declared.PeerSet.{PeerSet}
 use Rattle.lease.specs.declared.PeerSet.the-variants.{All, Of}
 use Rattle.lease.specs.declared.LeaseNotice.{LeaseNotice}
 use Rattle.lease.specs.declared.LeaseNotice.the-variants as N
-use Rattle.lease.specs.Limits.{populationValid, readingValid}
+use Rattle.lease.specs.Limits.{readingValid}
 
 -- A notice about one peer, and time left: 7, peer not below population; 8, peer is own id.
 abbrev pub peerRefusal : ℕ → ℕ → ℕ → ℕ
@@ -33,7 +34,7 @@ advanceRefusal now to = cond (not (readingValid to)) 5 (cond (ltb (to .0) (now .
 -- A refresh set: 12, size not 1 to 64.
 abbrev pub refreshRefusal : PeerSet → ℕ
 refreshRefusal All = 0
-refreshRefusal (Of b) = cond (not (populationValid (b .size))) 12 0
+refreshRefusal (Of b) = cond (badSize (b .size)) 12 0
 
 -- A call on a manager's record looks at the record first: 15. Then the call's own refusals; then what it does.
 abbrev pub judged : {A : Type 0} → Bool → ℕ → (ℕ → A) → A → A

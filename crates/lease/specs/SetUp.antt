@@ -3,6 +3,7 @@ use Prim.Native.Nat.{ℕ, _*_}
 use mathlib.Core.Bool.{Bool, true, false, cond, not}
 use lib.Dec.{eqb, leb}
 use lib.ListN.{replicate}
+use Rattle.bitmap.specs.Bitmaps.{capacity}
 use Rattle.drift.specs.declared.Clock.the-variants.{True}
 use Rattle.timer.specs.declared.Reading.{Reading}
 use Rattle.lease.specs.declared.QuietTimer.the-variants as Q
@@ -10,7 +11,7 @@ use Rattle.lease.specs.declared.Manager.{Manager}
 use Rattle.lease.specs.declared.SetUpAnswer.{SetUpAnswer}
 use Rattle.lease.specs.declared.SetUpOutcome.the-variants.{Refused, Done}
 use Rattle.lease.specs.Rows.{emptyRow}
-use Rattle.lease.specs.Limits.{timeoutValid, populationValid, ownValid, readingValid, capacity}
+use Rattle.lease.specs.Limits.{timeoutValid, populationValid, ownValid, readingValid}
 
 -- 1, T under 100 ms or over 10 s; 2, twice the heartbeat not below T; 3, population not 1 to 64; 4, own id not below population; 5,
 -- reading over the maximum.

@@ -8,7 +8,7 @@ use native.Mathlib.Omega.{arith}
 use lib.Dec.{leb, ltb, eqb}
 use lib.ListN.{length-replicate, getD-replicate}
 use borrow.Author.Tests.{ltb-true, ltb-false, leb-true, eqb-true, lt-ltb, le-ltb, le-leb}
-use Rattle.bitmap.specs.Bitmaps.{bitmapOf}
+use Rattle.bitmap.specs.Bitmaps.{capacity, bitmapOf}
 use Rattle.bitmap.specs.Sets.{one, countWhere}
 use Rattle.drift.specs.Clocks.{isSettable}
 use Rattle.timer.specs.declared.Reading.{Reading}
@@ -39,7 +39,7 @@ use Rattle.lease.specs.declared.AdvanceOutcome.the-variants as AO
 use Rattle.lease.specs.declared.PlainOutcome.the-variants as PO
 use Rattle.lease.specs.Rows.{rowAt, emptyRow, granted, activeEntry}
 use Rattle.lease.specs.Passes.{isFirst, passOver}
-use Rattle.lease.specs.Limits.{within, timeoutValid, populationValid, ownValid, readingValid, capacity}
+use Rattle.lease.specs.Limits.{within, timeoutValid, populationValid, ownValid, readingValid}
 use Rattle.lease.specs.RecordCheck.{rowEmpty, rowValidAt, rowsValid, quietValid, limitsValid, recordValid}
 use Rattle.lease.specs.Notices.{actedUnder, onPeer, handleNewGrants, handleDoRevoke, handleClearHeld, raisedTo, handleNotice, acceptedOf, outdated, numbered}
 use Rattle.lease.specs.Calls.{isQuiet, advanceTo, assumeUnknownGrants, attemptRefresh, setDrift, grantSet, leaseSet, leaseCnt}
