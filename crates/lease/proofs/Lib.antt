@@ -1,3 +1,4 @@
+pub mod Tables
 pub mod Shift
 pub mod Slips
 pub mod Edges

@@ -1,4 +1,4 @@
--- Tests as facts, sums and counts over ids. Assumes nothing.
+-- Tests on numbers as facts, and sums over the ids. Assumes nothing.
 use mathlib.Core.Path.{_≡_, refl}
 use mathlib.Core.Logic.{_≢_}
 use mathlib.Core.Bool.{Bool, true, false, cond, _&&_}
@@ -6,7 +6,7 @@ use Prim.Native.Nat.{ℕ, zero, suc, _+_, _≤_, _<_}
 use native.Mathlib.Omega.{arith}
 use lib.Dec.{leb, ltb, eqb}
 use borrow.Author.Tests.{ltb-true, ltb-false, leb-true, leb-false, eqb-true, eqb-false, ne-eqb}
-use Rattle.bitmap.specs.Sets.{one, idsWhere, countWhere}
+use Rattle.bitmap.specs.Sets.{one, countWhere}
 
 -- a test on two numbers, seen as a fact
 pub data Same (m n : ℕ) : Type 0 where
@@ -80,18 +80,8 @@ sumBelow-one (suc n) q x h = go (sameb q n) (λ l. sumBelow-one n q x l)
         rw e (omega arith)
     go (apart e p) ih = rw e (let z = ih (omega arith) in omega arith)
 
--- sets and counts by tests that agree
-pub idsWhere-cong : (n : ℕ) (f g : ℕ → Bool) → ((i : ℕ) → i < n → f i ≡ g i) → idsWhere f n ≡ idsWhere g n
-unfolding idsWhere
-idsWhere-cong zero f g h = refl
-idsWhere-cong (suc n) f g h = rw (idsWhere-cong n f g (λ i l. h i (omega arith)), h n (omega arith))
-
+-- a count is a sum of ones
 pub countWhere-sum : (n : ℕ) (f : ℕ → Bool) → countWhere f n ≡ sumBelow n (λ i. one (f i))
 unfolding countWhere
 countWhere-sum zero f = refl
 countWhere-sum (suc n) f = rw (countWhere-sum n f)
-
-pub countWhere-cong : (n : ℕ) (f g : ℕ → Bool) → ((i : ℕ) → i < n → f i ≡ g i) → countWhere f n ≡ countWhere g n
-unfolding countWhere
-countWhere-cong zero f g h = refl
-countWhere-cong (suc n) f g h = rw (countWhere-cong n f g (λ i l. h i (omega arith)), h n (omega arith))

@@ -10,6 +10,7 @@ use lib.ListN.{length-replicate, getD-replicate}
 use borrow.Author.Tests.{ltb-true, ltb-false, leb-true, eqb-true, lt-ltb, le-ltb, le-leb}
 use Rattle.bitmap.specs.Bitmaps.{capacity, bitmapOf}
 use Rattle.bitmap.specs.Sets.{one, countWhere}
+use Rattle.bitmap.proofs.Laws.{idsWhere-same, countWhere-same}
 use Rattle.drift.specs.Clocks.{isSettable}
 use Rattle.timer.specs.declared.Reading.{Reading}
 use Rattle.timer.specs.Timers.{maxReading, drifted}
@@ -49,7 +50,7 @@ use Rattle.lease.specs.Refusals.{noticeRefusal, advanceRefusal, refreshRefusal}
 use Rattle.lease.specs.Verdicts.{Call, notice, advance, quiet-start, refresh, drift, grant-set, lease-set, lease-cnt, time-left, Verdict, byNotice, byAdvance, byPlain, bySet, byCount, byTimeLeft, verdict, linesOf}
 use Rattle.log.specs.Demand3.{Typed, AllTyped, grantsBy, leasesBy, countBy, LogDecides, Demand3}
 use Rattle.log.specs.Log.{stamped, openLines, isOpen, promiseLines, endedLines, no-line, lastHeld, QuietStart, never, since, Journal, noted, journalAt, Run, stepped, runFrom, quietSince, quietTime, isLeased}
-use Rattle.log.proofs.Base.{Same, same, apart, sameb, Below, below, above, belowb, AtMost, at-most, beyond, lebb, both, sumBelow-cong, idsWhere-cong, countWhere-cong, countWhere-sum}
+use Rattle.log.proofs.Base.{Same, same, apart, sameb, Below, below, above, belowb, AtMost, at-most, beyond, lebb, both, sumBelow-cong, countWhere-sum}
 use Rattle.log.proofs.Base as Base
 use Rattle.log.proofs.LogFacts.{balance}
 use Rattle.log.proofs.RowFacts.{RowInv, row-grant, row-open, row-lease, row-valid, deadline-valid}
@@ -284,17 +285,17 @@ module _ (m : Manager) (j : Journal) (i : Inv m j) where
   grants-are =
       rw (
         same-quiet,
-        idsWhere-cong n (isFirst P.Everyone (m .me) (m .peers)) (λ p. not (eqb p (m .me))) everyone-is,
-        idsWhere-cong n (isFirst P.Granted (m .me) (m .peers)) (isOpen (j .log)) open-is,
+        idsWhere-same (isFirst P.Everyone (m .me) (m .peers)) (λ p. not (eqb p (m .me))) n everyone-is,
+        idsWhere-same (isFirst P.Granted (m .me) (m .peers)) (isOpen (j .log)) n open-is,
       )
 
   leases-are : leaseSet m ≡ leasesBy n t j
   unfolding leaseSet passOver
-  leases-are = ap (bitmapOf n) (idsWhere-cong n (isFirst (P.Leased (m .now)) (m .me) (m .peers)) (isLeased t j) lease-is)
+  leases-are = ap (bitmapOf n) (idsWhere-same (isFirst (P.Leased (m .now)) (m .me) (m .peers)) (isLeased t j) n lease-is)
 
   count-is : leaseCnt m ≡ countBy n t j
   unfolding leaseCnt passOver
-  count-is = ap (λ x. 1 + x) (countWhere-cong n (isFirst (P.Leased (m .now)) (m .me) (m .peers)) (isLeased t j) lease-is)
+  count-is = ap (λ x. 1 + x) (countWhere-same (isFirst (P.Leased (m .now)) (m .me) (m .peers)) (isLeased t j) n lease-is)
 
   balanced-is : promiseLines (j .log) ≡ endedLines (j .log) + countWhere (isOpen (j .log)) n
   balanced-is =

@@ -40,7 +40,7 @@ use Rattle.lease.specs.declared.PeerNotice.the-variants as PN
 use Rattle.lease.specs.declared.Actions.the-variants as AS
 use Rattle.lease.specs.declared.Pass.the-variants as P
 use Rattle.lease.specs.declared.DriftSetting.the-variants as D
-use Rattle.lease.specs.Tables.{below-done, below-rest, length-below}
+use Rattle.lease.proofs.Tables.{below-done, below-rest, length-below}
 use Rattle.lease.specs.Rows.{rowAt, emptyRow}
 use Rattle.lease.specs.Passes.{named, passRow, rowAfter, passOver}
 use Rattle.lease.specs.Notices.{outdated, termOf, withPeers, passOn, handledAt, onPeer, handleNewGrants, handleDoRevoke, handleClearHeld, raisedTo, handleNotice, acceptedOf}
