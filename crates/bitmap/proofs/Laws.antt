@@ -8,7 +8,8 @@ use native.Mathlib.Omega.{arith}
 use lib.Dec.{eqb, leb, ltb}
 use lib.Pow.{pow-pos, pow-mono, pow-add, mod-pow-add}
 use borrow.Author.Tests.{eqb-true, eqb-false, eq-eqb, ne-eqb, leb-true, leb-false, ltb-true, ltb-false}
-use Rattle.bitmap.specs.Sets.{member, weight, one, idsWhere, idsWhere-lt, countWhere}
+use Rattle.bitmap.specs.Sets.{member, weight, one, idsWhere, countWhere}
+use Rattle.bitmap.proofs.Sets.{idsWhere-lt}
 
 weight-one : (b : Bool) (n : ℕ) → weight b n ≡ one b * 2 ^ n
 weight-one true n = omega arith
@@ -54,6 +55,7 @@ member-below p (suc n) i h = rw (weight-one (p n) n) (go (eqb i n) refl (λ l. m
         lower ne = omega (arith, ne)
 
 -- ---- sets and counts by their tests
+-- two tests that agree below n
 pub idsWhere-same : (p q : ℕ → Bool) (n : ℕ) → ((i : ℕ) → i < n → p i ≡ q i) → idsWhere p n ≡ idsWhere q n
 unfolding idsWhere
 idsWhere-same p q zero e = refl
@@ -79,6 +81,12 @@ pub idsWhere-empty : (p : ℕ → Bool) (n : ℕ) → ((i : ℕ) → i < n → p
 unfolding idsWhere
 idsWhere-empty p zero e = refl
 idsWhere-empty p (suc n) e = rw (e n (omega arith), idsWhere-empty p n (λ i l. e i (omega arith))) (omega arith)
+
+-- all taken
+pub idsWhere-all : (n : ℕ) → idsWhere (λ i. true) n + 1 ≡ 2 ^ n
+unfolding idsWhere
+idsWhere-all zero = refl
+idsWhere-all (suc n) = omega (arith, idsWhere-all n, two-pow-succ n)
 
 -- none of n ids taken: what a count of 0 says
 pub countWhere-none : (p : ℕ → Bool) (n : ℕ) → countWhere p n ≡ 0 → (i : ℕ) → i < n → p i ≡ false

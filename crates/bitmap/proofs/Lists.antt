@@ -1,4 +1,4 @@
--- Lists of ids: which ids a list has, as it grows at its end. Assumes nothing.
+-- Lists of ids: which ids a list has, the list of the ids that a test takes, and that list laid over lent bytes. Assumes nothing.
 use Prim.Native.Nat.{ℕ, zero, suc, _+_, _<_, _≤_}
 use mathlib.Core.Path.{_≡_, refl, ap, _∙_}
 use mathlib.Core.Bool.{Bool, true, false, _&&_, _||_, cond}
@@ -11,8 +11,8 @@ use borrow.Author.Tests.{eqb-true, eqb-false, eq-eqb, ltb-true, ltb-false, lt-lt
 use lib.ListN.{length, take, drop, getD, set, length-append, List·getD-append}
 use lib.Seq.{take-suc, drop-cons, set-append-seam, getD-append-seam}
 use Rattle.bitmap.specs.Sets.{one, countWhere}
-use Rattle.bitmap.specs.Bitmaps.{bitmapOf, bitmapWhere, isOne}
-use Rattle.bitmap.specs.Operations.{outside, listed, idsBelow, laidOver}
+use Rattle.bitmap.specs.Bitmaps.{bitmapOf, bitmapWhere}
+use Rattle.bitmap.specs.Operations.{outside, withId, listed, idsBelow, laidOver}
 use Rattle.bitmap.proofs.Laws.{idsWhere-same}
 use Rattle.bitmap.proofs.Bitmaps.{isOne-below}
 
@@ -37,11 +37,14 @@ listed-snoc (x ∷ ids) id i = rw (listed-snoc ids id i) (swap (eqb i x) (eqb i 
     swap false y z = refl
 
 -- the set of the first k ids with the next one put in is the set of the first k + 1
-pub put-next : (size : ℕ) (ids : List ℕ) (k : ℕ) → k < length ids → bitmapWhere size (λ i. cond (eqb i (getD ids k 0)) true (isOne (bitmapWhere size (listed (take k ids))) i)) ≡ bitmapWhere size (listed (take (k + 1) ids))
+pub put-next : (size : ℕ) (ids : List ℕ) (k : ℕ) → k < length ids → bitmapWhere size (withId (bitmapWhere size (listed (take k ids))) (getD ids k 0) true) ≡ bitmapWhere size (listed (take (k + 1) ids))
 put-next size ids k h =
     let before = listed (take k ids) in
+    let id = getD ids k 0 in
+    let same : (i : ℕ) → i < size → withId (bitmapWhere size before) id true i ≡ listed (take k ids ++ (id ∷ [])) i =
+    λ i l. rw (isOne-below size before i l, listed-snoc (take k ids) id i) in
     rw (add-one, take-suc ids k 0 h)
-    (ap (bitmapOf size) (idsWhere-same (λ i. cond (eqb i (getD ids k 0)) true (isOne (bitmapWhere size before) i)) (listed (take k ids ++ (getD ids k 0 ∷ []))) size (λ i l. rw (isOne-below size before i l, listed-snoc (take k ids) (getD ids k 0) i))))
+    (ap (bitmapOf size) (idsWhere-same (withId (bitmapWhere size before) id true) (listed (take k ids ++ (id ∷ []))) size same))
 
 -- ---- the ids below n that a test takes, as a list
 -- as many as the count says

@@ -19,7 +19,7 @@ pub struct Bitmap {
 }
 
 // The number of the set that has the id i alone.
-pub fn power(i: usize) -> u64
+fn power(i: usize) -> u64
     requires { ⌜ i < capacity ⌝ }
     ensures { λ r. ⌜ r ≡ 2 ^ i ⌝ }
 {
@@ -27,7 +27,7 @@ pub fn power(i: usize) -> u64
 }
 
 // Whether the set has the id i.
-pub fn has(bits: u64, i: usize) -> bool
+fn has(bits: u64, i: usize) -> bool
     requires { ⌜ i < capacity ⌝ }
     ensures { λ r. ⌜ r ≡ member bits i ⌝ }
 {

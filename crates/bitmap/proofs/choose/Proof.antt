@@ -4,7 +4,8 @@ use mathlib.Core.Bool.{Bool}
 use mathlib.Core.Path.{_≡_, _∙_}
 use native.Mathlib.Omega.{arith}
 use borrow.Author.Needs.{needs}
-use Rattle.bitmap.specs.Sets.{idsWhere, idsWhere-lt, idsWhere-more, countWhere, countWhere-le, countWhere-more}
+use Rattle.bitmap.specs.Sets.{idsWhere, countWhere}
+use Rattle.bitmap.proofs.Sets.{idsWhere-lt, idsWhere-more, countWhere-le, countWhere-more}
 use Rattle.bitmap.specs.Rules.{takenBy, chosenBelow, chosenWith}
 use Rattle.bitmap.proofs.choose.Statement.{statement}
 use Rattle.bitmap.proofs.choose.Tie as tie

@@ -1,7 +1,7 @@
 -- `bitmap::chosen_with` meets its contract. A count of at most i is below 64, so one more fits. Assumes nothing.
 use native.Mathlib.Omega.{arith}
 use borrow.Author.Needs.{needs}
-use Rattle.bitmap.specs.Sets.{one-le}
+use Rattle.bitmap.proofs.Sets.{one-le}
 use Rattle.bitmap.proofs.chosen_with.Statement.{statement}
 use Rattle.bitmap.proofs.chosen_with.Tie as tie
 

@@ -2,7 +2,7 @@
 use native.Mathlib.Omega.{arith}
 use borrow.Author.Needs.{needs}
 use Rattle.bitmap.specs.Bitmaps.{isOne}
-use Rattle.bitmap.specs.Sets.{countWhere-le}
+use Rattle.bitmap.proofs.Sets.{countWhere-le}
 use Rattle.bitmap.proofs.Bitmaps.{size-le}
 use Rattle.bitmap.proofs.count.Statement.{statement}
 use Rattle.bitmap.proofs.count.Tie as tie

@@ -4,7 +4,8 @@ use native.Mathlib.Omega.{arith}
 use lib.ListN.{length}
 use borrow.Author.Tests.{le-ltb, lt-ltb}
 use borrow.Author.Needs.{needs}
-use Rattle.bitmap.specs.Sets.{countWhere, countWhere-le}
+use Rattle.bitmap.specs.Sets.{countWhere}
+use Rattle.bitmap.proofs.Sets.{countWhere-le}
 use Rattle.bitmap.specs.Bitmaps.{isOne}
 use Rattle.bitmap.proofs.Bitmaps.{size-le}
 use Rattle.bitmap.proofs.ones.Statement.{statement}

@@ -4,7 +4,8 @@ use mathlib.Core.Path.{_≡_, _∙_}
 use native.Mathlib.Omega.{arith}
 use lib.ListN.{length}
 use borrow.Author.Needs.{needs}
-use Rattle.bitmap.specs.Sets.{one, countWhere, countWhere-more}
+use Rattle.bitmap.specs.Sets.{one, countWhere}
+use Rattle.bitmap.proofs.Sets.{countWhere-more}
 use Rattle.bitmap.specs.Bitmaps.{isOne}
 use Rattle.bitmap.specs.Operations.{idsBelow, laidOver}
 use Rattle.bitmap.proofs.Laws.{countWhere-mono}
