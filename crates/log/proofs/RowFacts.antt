@@ -10,7 +10,7 @@ use Rattle.drift.specs.declared.Clock.{Clock}
 use Rattle.timer.specs.declared.Reading.{Reading}
 use Rattle.timer.specs.declared.Timer.{Timer}
 use Rattle.timer.specs.declared.Timer.the-variants.{Unarmed, Armed, Exploded}
-use Rattle.timer.specs.Timers.{drifted, kickedOff}
+use Rattle.timer.specs.Timers.{farthest, drifted, kickedOff}
 use Rattle.lease.specs.declared.AcceptBar.{AcceptBar}
 use Rattle.lease.specs.declared.Entry.{Entry}
 use Rattle.lease.specs.declared.Entry.the-variants.{Absent, Present}
@@ -39,7 +39,7 @@ rowOf gs g gh ph m = record { «guard_sent» = gs; «promise_sent» = g; «guard
 -- how far past now a sent promise's deadline may be: 2,000 s if the peer is marked, for then one refresh may add 1,000 s; else 3,000 s
 abbrev pub limit : Bool → ℕ
 limit true = 2000000000000
-limit false = 3000000000000
+limit false = farthest
 
 abbrev pub NoGrant : Grant → Type 0
 NoGrant G.Absent = Unit {0}
@@ -87,7 +87,8 @@ module _ (t : ℕ) where
   LeaseOk now (Present Exploded) (in-at r c) = r .0 + drifted c t ≤ now .0
   LeaseOk now (Present Exploded) out = ⊥
 
-  -- THE INVARIANT OF A ROW at `now`, with o open Promise lines in the log and h the last held-side line
+  -- THE INVARIANT OF A ROW at `now`, with o open Promise lines in the log and h the last held-side line: the sent side, the held side,
+  -- one open line for a promise sent, and the promise held as the last line has it
   abbrev pub RowInv : Reading → Peer → ℕ → Last → Type 0
   RowInv now row o h =
       SentOk now (row .«refresh_mark») (row .«guard_sent») (row .«promise_sent») × HeldOk now (row .«guard_held») (row .«promise_held») × (o ≡ one (granted (row .«promise_sent»)))
@@ -366,8 +367,8 @@ module _ (term : Term) (id : ℕ) where
 
 -- ---- never refusal 15
 
-pub deadline-valid : (now d : Reading) → now .0 < d .0 → d .0 ≤ now .0 + 3000000000000 → deadlineValid now d ≡ true
-deadline-valid now d a b = rw (lt-ltb (now .0) (d .0) a, le-leb (d .0) (now .0 + 3000000000000) b)
+pub deadline-valid : (now d : Reading) → now .0 < d .0 → d .0 ≤ now .0 + farthest → deadlineValid now d ≡ true
+deadline-valid now d a b = rw (lt-ltb (now .0) (d .0) a, le-leb (d .0) (now .0 + farthest) b)
 
 grant-valid : (now : Reading) (m : Bool) (g : Grant) → GrantOk now m g → grantValid now g ≡ true
 grant-valid now m G.Absent k = refl
