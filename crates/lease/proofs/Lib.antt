@@ -1,4 +1,5 @@
 pub mod Tables
+pub mod Judged
 pub mod Shift
 pub mod Slips
 pub mod Edges

@@ -20,7 +20,6 @@ use Rattle.lease.specs.declared.Entry.the-variants.{Absent, Present}
 use Rattle.lease.specs.declared.Grant.{Grant}
 use Rattle.lease.specs.declared.Grant.the-variants as G
 use Rattle.lease.specs.declared.Peer.{Peer}
-use Rattle.lease.specs.declared.QuietTimer.{QuietTimer}
 use Rattle.lease.specs.declared.QuietTimer.the-variants as Q
 use Rattle.lease.specs.declared.QuietEnd.the-variants as QE
 use Rattle.lease.specs.declared.LeaseMsg.{LeaseMsg}
@@ -46,7 +45,7 @@ use Rattle.lease.specs.Calls.{withTime}
 use Rattle.lease.specs.RecordCheck.{recordValid}
 use Rattle.lease.specs.SetUp.{fresh}
 use Rattle.lease.specs.Verdicts.{notice, advance, quiet-start, refresh, drift, grant-set, lease-set, lease-cnt, time-left}
-use Rattle.lease.specs.Shift.{Ask, anew, call, look, Answer, set-up, noticed, advanced, plain, set, count, left, row, ms, start, answers, no, under, noneFired, promiseSent, promiseHeld}
+use Rattle.lease.specs.Shift.{Ask, anew, call, look, Answer, set-up, noticed, advanced, plain, set, count, left, row, ms, start, answers, no, under, promiseSent, promiseHeld}
 
 -- ---- shorthands, all under number 0
 

@@ -1,7 +1,7 @@
--- Edges of the rules: the farthest deadline, the refusals where two apply, and at most three actions. Statements only.
+-- Edges of the rules: the farthest deadline, the refusals, and at most three actions. Statements only; proved in proofs/Edges.
 use mathlib.Core.Path.{_≡_}
 use mathlib.Core.List.{List, [], _∷_}
-use mathlib.Core.Bool.{Bool, true, false}
+use mathlib.Core.Bool.{true, false}
 use Prim.Native.Nat.{ℕ, _≤_}
 use lib.IntN.{negsuc}
 use lib.ListN.{length}
@@ -9,6 +9,7 @@ use lib.ListN as ListN
 use Rattle.bitmap.specs.Bitmaps.{bitmapOf}
 use Rattle.timer.specs.declared.Reading.{Reading}
 use Rattle.lease.specs.declared.AcceptBar.the-variants as B
+use Rattle.lease.specs.declared.PeerSet.{PeerSet}
 use Rattle.lease.specs.declared.PeerSet.the-variants.{All, Of}
 use Rattle.lease.specs.declared.LeaseMsg.the-variants as M
 use Rattle.lease.specs.declared.LeaseAction.the-variants as A
@@ -16,10 +17,12 @@ use Rattle.lease.specs.declared.LeaseNum.{LeaseNum}
 use Rattle.lease.specs.declared.LeaseNotice.{LeaseNotice}
 use Rattle.lease.specs.declared.LeaseNotice.the-variants as N
 use Rattle.lease.specs.declared.Lines.the-variants as L
+use Rattle.lease.specs.declared.DriftSetting.{DriftSetting}
 use Rattle.lease.specs.declared.DriftSetting.the-variants as D
 use Rattle.lease.specs.declared.Manager.{Manager}
 use Rattle.lease.specs.declared.NoticeOutcome.the-variants as NO
 use Rattle.lease.specs.declared.AdvanceOutcome.the-variants as AO
+use Rattle.lease.specs.declared.PlainOutcome.the-variants as PO
 use Rattle.lease.specs.declared.SetOutcome.the-variants as SO
 use Rattle.lease.specs.declared.TimeLeftOutcome.the-variants as TO
 use Rattle.lease.specs.declared.SetUpOutcome.the-variants as SU
@@ -27,7 +30,7 @@ use Rattle.lease.specs.Rows.{rowAt}
 use Rattle.lease.specs.Notices.{withPeers, acceptedOf}
 use Rattle.lease.specs.RecordCheck.{recordValid}
 use Rattle.lease.specs.SetUp.{setupOf}
-use Rattle.lease.specs.Rules.{noticeOf}
+use Rattle.lease.specs.Rules.{noticeOf, advanceOf, quietOf, refreshOf, driftOf}
 use Rattle.lease.specs.Verdicts.{Call, notice, advance, refresh, drift, time-left, verdict, linesOf}
 use Rattle.lease.specs.Shift.{Ask, call, Answer, noticed, advanced, set, left, ms, start, answers, next, no, under, noneFired, promiseSent}
 
@@ -97,3 +100,16 @@ SetUpRefusals =
 
 abbrev pub AtMostThree : Type 0
 AtMostThree = (m : Manager) (num : LeaseNum) (x : LeaseNotice) → length (linesOf (acceptedOf m num x .lines)) ≤ 3
+
+-- ---- a refusal changes nothing: the record answered is the one that went in
+
+pub record RefusalsKeep (m : Manager) : Type 0 where
+  pub notices : (num : LeaseNum) (x : LeaseNotice) (k : ℕ) → noticeOf m num x .outcome ≡ NO.Refused k → noticeOf m num x .manager ≡ m
+  pub advances : (to : Reading) (k : ℕ) → advanceOf m to .outcome ≡ AO.Refused k → advanceOf m to .manager ≡ m
+  pub quiet-starts : (k : ℕ) → quietOf m .outcome ≡ PO.Refused k → quietOf m .manager ≡ m
+  pub refreshes : (to : PeerSet) (k : ℕ) → refreshOf m to .outcome ≡ SO.Refused k → refreshOf m to .manager ≡ m
+  pub drifts : (x : DriftSetting) (k : ℕ) → driftOf m x .outcome ≡ PO.Refused k → driftOf m x .manager ≡ m
+
+-- A refused set-up has no such record: what it answers is refused with 15 by every call.
+abbrev pub RefusedSetUp : Type 0
+RefusedSetUp = (me n t heartbeat : ℕ) (now : Reading) (k : ℕ) → setupOf me n t heartbeat now .outcome ≡ SU.Refused k → recordValid (setupOf me n t heartbeat now .manager) ≡ false

@@ -1,6 +1,6 @@
 -- Document 01, "Refused calls", of the calls on a record: each call's own refusals in their order, 0 where none applies. Definitions only.
 use Prim.Native.Nat.{ℕ}
-use mathlib.Core.Bool.{Bool, true, false, cond, not}
+use mathlib.Core.Bool.{Bool, cond, not}
 use lib.Dec.{eqb, leb, ltb}
 use Rattle.bitmap.specs.Operations.{badSize}
 use Rattle.timer.specs.declared.Reading.{Reading}

@@ -1,6 +1,5 @@
 -- THE RULES: what each call on a record gives, refusals first. Set-up's stands in SetUp. Definitions only.
 use Prim.Native.Nat.{ℕ}
-use mathlib.Core.Bool.{Bool, true, false, cond}
 use Rattle.timer.specs.declared.Reading.{Reading}
 use Rattle.lease.specs.declared.PeerSet.{PeerSet}
 use Rattle.lease.specs.declared.LeaseNum.{LeaseNum}

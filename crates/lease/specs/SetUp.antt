@@ -1,6 +1,6 @@
 -- Set-up, the Rust's `new_and_setup`. Definitions only.
 use Prim.Native.Nat.{ℕ, _*_}
-use mathlib.Core.Bool.{Bool, true, false, cond, not}
+use mathlib.Core.Bool.{cond, not}
 use lib.Dec.{eqb, leb}
 use lib.ListN.{replicate}
 use Rattle.bitmap.specs.Bitmaps.{capacity}

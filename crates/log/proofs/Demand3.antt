@@ -47,7 +47,8 @@ use Rattle.lease.specs.Calls.{isQuiet, advanceTo, assumeUnknownGrants, attemptR
 use Rattle.lease.specs.Rules.{grantSetOf, leaseSetOf, leaseCntOf, timeLeftOf, noticeGiven, noticeOf, advanceOf, quietOf, refreshOf, driftOf}
 use Rattle.lease.specs.SetUp.{setupRefusal, fresh, setupOf}
 use Rattle.lease.specs.Refusals.{noticeRefusal, advanceRefusal, refreshRefusal}
-use Rattle.lease.specs.Verdicts.{Call, notice, advance, quiet-start, refresh, drift, grant-set, lease-set, lease-cnt, time-left, Verdict, byNotice, byAdvance, byPlain, bySet, byCount, byTimeLeft, verdict, linesOf}
+use Rattle.lease.proofs.Judged.{judged-by, plainOf}
+use Rattle.lease.specs.Verdicts.{done, Call, notice, advance, quiet-start, refresh, drift, grant-set, lease-set, lease-cnt, time-left, byNotice, byAdvance, byPlain, bySet, byCount, byTimeLeft, verdict, linesOf}
 use Rattle.log.specs.Demand3.{Typed, AllTyped, grantsBy, leasesBy, countBy, LogDecides, Demand3}
 use Rattle.log.specs.Log.{stamped, openLines, isOpen, promiseLines, endedLines, no-line, lastHeld, QuietStart, never, since, Journal, noted, journalAt, Run, stepped, runFrom, quietSince, quietTime, isLeased}
 use Rattle.log.proofs.Base.{Same, same, apart, sameb, Below, below, above, belowb, AtMost, at-most, beyond, lebb, both, sumBelow-cong, countWhere-sum}
@@ -121,24 +122,14 @@ module _ (r : Run) (i : Inv (r .manager) (r .journal)) where
 
   notice-step : (num : LeaseNum) (x : LeaseNotice) → RunInv r (stepped r (notice num x) (verdict m (notice num x)))
   unfolding noticeOf
-  notice-step num x = go (recordValid m) (eqb code 0) refl
+  notice-step num x =
+      judged-by (λ (a : NoticeAnswer). RunInv r (stepped r (notice num x) (byNotice (a .outcome) (a .manager)))) (recordValid m) (noticeRefusal (m .population) (m .me) x)
+      (λ k. record { outcome = NO.Refused k; manager = m }) (noticeGiven (acceptedOf m num x)) (λ k. same-run) (λ z. (ok z, accepted-kept m num x))
     where
-      code : ℕ
-      code = noticeRefusal (m .population) (m .me) x
-
-      by : NoticeAnswer → Verdict
-      by n = byNotice (n .outcome) (n .manager)
-
-      ok : eqb code 0 ≡ true → Inv (acceptedOf m num x .manager) (noted j (notice num x) (linesOf (acceptedOf m num x .lines)))
-      ok q = subst (λ n. Inv (acceptedOf m num x .manager) (longer j (stamped n (j .clock) (linesOf (acceptedOf m num x .lines))))) (sym (i .same-now))
+      ok : noticeRefusal (m .population) (m .me) x ≡ 0 → Inv (acceptedOf m num x .manager) (noted j (notice num x) (linesOf (acceptedOf m num x .lines)))
+      ok z = subst (λ n. Inv (acceptedOf m num x .manager) (longer j (stamped n (j .clock) (linesOf (acceptedOf m num x .lines))))) (sym (i .same-now))
           (subst (λ c. Inv (acceptedOf m num x .manager) (longer j (stamped (m .now) c (linesOf (acceptedOf m num x .lines))))) (sym (i .same-clock))
-          (notice-inv m j i num x (eqb-true code 0 q)))
-
-      go : (b z : Bool) → eqb code 0 ≡ z
-          → RunInv r (stepped r (notice num x) (by (cond b (cond z (noticeGiven (acceptedOf m num x)) (record { outcome = NO.Refused code; manager = m })) (record { outcome = NO.Refused 15; manager = m }))))
-      go true true q = (ok q, accepted-kept m num x)
-      go true false q = same-run
-      go false z q = same-run
+          (notice-inv m j i num x z))
 
   in-time : (to : Reading) → advanceRefusal (m .now) to ≡ 0 → (m .now .0 ≤ to .0) × (to .0 ≤ maxReading)
   in-time to a =
@@ -148,54 +139,32 @@ module _ (r : Run) (i : Inv (r .manager) (r .journal)) where
 
   advance-step : (to : Reading) → RunInv r (stepped r (advance to) (verdict m (advance to)))
   unfolding advanceOf advanceTo
-  advance-step to = go (recordValid m) (eqb code 0) refl
-    where
-      code : ℕ
-      code = advanceRefusal (m .now) to
+  advance-step to =
+      judged-by (λ (a : AdvanceAnswer). RunInv r (stepped r (advance to) (byAdvance (a .outcome) (a .manager)))) (recordValid m) (advanceRefusal (m .now) to)
+      (λ k. record { outcome = AO.Refused k; manager = m }) (advanceTo m to) (λ k. same-run)
+      (λ z. let h = in-time to z in (advance-inv m j i to (h .0) (h .1), record { me-kept = refl; n-kept = refl; t-kept = refl }))
 
-      by : AdvanceAnswer → Verdict
-      by n = byAdvance (n .outcome) (n .manager)
-
-      go : (b z : Bool) → eqb code 0 ≡ z
-          → RunInv r (stepped r (advance to) (by (cond b (cond z (advanceTo m to) (record { outcome = AO.Refused code; manager = m })) (record { outcome = AO.Refused 15; manager = m }))))
-      go true true q = let h = in-time to (eqb-true code 0 q) in (advance-inv m j i to (h .0) (h .1), record { me-kept = refl; n-kept = refl; t-kept = refl })
-      go true false q = same-run
-      go false z q = same-run
+  -- a quiet start and a drift setting, which 15 alone refuses
+  plain-step : (c : Call) (next : Manager) → RunInv r (stepped r c (done [] next))
+      → RunInv r (stepped r c (byPlain (plainOf m next .outcome) (plainOf m next .manager)))
+  plain-step c next ok =
+      judged-by (λ (a : PlainAnswer). RunInv r (stepped r c (byPlain (a .outcome) (a .manager)))) (recordValid m) 0
+      (λ k. record { outcome = PO.Refused k; manager = m }) (record { outcome = PO.Done; manager = next }) (λ k. same-run) (λ z. ok)
 
   quiet-step : RunInv r (stepped r quiet-start (verdict m quiet-start))
   unfolding quietOf assumeUnknownGrants
-  quiet-step = go (recordValid m)
-    where
-      by : PlainAnswer → Verdict
-      by n = byPlain (n .outcome) (n .manager)
-
-      go : (b : Bool) → RunInv r (stepped r quiet-start (by (cond b (record { outcome = PO.Done; manager = assumeUnknownGrants m }) (record { outcome = PO.Refused 15; manager = m }))))
-      go true = (quiet-inv m j i, record { me-kept = refl; n-kept = refl; t-kept = refl })
-      go false = same-run
+  quiet-step = plain-step quiet-start (assumeUnknownGrants m) (quiet-inv m j i, record { me-kept = refl; n-kept = refl; t-kept = refl })
 
   drift-step : (x : DriftSetting) → Typed (drift x) → RunInv r (stepped r (drift x) (verdict m (drift x)))
   unfolding driftOf setDrift
-  drift-step x f = go (recordValid m)
-    where
-      by : PlainAnswer → Verdict
-      by n = byPlain (n .outcome) (n .manager)
-
-      go : (b : Bool) → RunInv r (stepped r (drift x) (by (cond b (record { outcome = PO.Done; manager = setDrift m x }) (record { outcome = PO.Refused 15; manager = m }))))
-      go true = (drift-inv m j i x f, record { me-kept = refl; n-kept = refl; t-kept = refl })
-      go false = same-run
+  drift-step x f = plain-step (drift x) (setDrift m x) (drift-inv m j i x f, record { me-kept = refl; n-kept = refl; t-kept = refl })
 
   refresh-step : (set : PeerSet) → RunInv r (stepped r (refresh set) (verdict m (refresh set)))
   unfolding refreshOf attemptRefresh
-  refresh-step set = go (recordValid m) (eqb (refreshRefusal set) 0)
-    where
-      by : RefreshAnswer → Verdict
-      by n = bySet (n .outcome) (n .manager)
-
-      go : (b z : Bool)
-          → RunInv r (stepped r (refresh set) (by (cond b (cond z (attemptRefresh m set) (record { outcome = SO.Refused (refreshRefusal set); manager = m })) (record { outcome = SO.Refused 15; manager = m }))))
-      go true true = (refresh-inv m j i set, record { me-kept = refl; n-kept = refl; t-kept = refl })
-      go true false = same-run
-      go false z = same-run
+  refresh-step set =
+      judged-by (λ (a : RefreshAnswer). RunInv r (stepped r (refresh set) (bySet (a .outcome) (a .manager)))) (recordValid m) (refreshRefusal set)
+      (λ k. record { outcome = SO.Refused k; manager = m }) (attemptRefresh m set) (λ k. same-run)
+      (λ z. (refresh-inv m j i set, record { me-kept = refl; n-kept = refl; t-kept = refl }))
 
   -- a question changes nothing
   set-step : (o : SetOutcome) (c : Call) → noted j c [] ≡ j → RunInv r (stepped r c (bySet o m))

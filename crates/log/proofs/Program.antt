@@ -1,9 +1,6 @@
 -- From the contracts to demand 3 of the program: the record that the program has come to is the rules' own. Assumes nothing.
 use mathlib.Core.Path.{_≡_, refl, ap, sym, _∙_}
 use mathlib.Core.List.{List, [], _∷_}
-use mathlib.Core.Bool.{Bool, true, false, cond}
-use Prim.Native.Nat.{ℕ}
-use lib.Dec.{eqb}
 use Rattle.timer.specs.declared.Reading.{Reading}
 use Rattle.lease.specs.declared.LeaseNum.{LeaseNum}
 use Rattle.lease.specs.declared.LeaseNotice.{LeaseNotice}
@@ -31,6 +28,7 @@ use Rattle.lease.specs.Notices.{acceptedOf}
 use Rattle.lease.specs.Calls.{advanceTo}
 use Rattle.lease.specs.Rules.{grantSetOf, leaseSetOf, leaseCntOf, timeLeftOf, noticeGiven, noticeOf, advanceOf, quietOf, refreshOf, driftOf}
 use Rattle.lease.specs.Refusals.{noticeRefusal, advanceRefusal}
+use Rattle.lease.proofs.Judged.{judged-by}
 use Rattle.lease.specs.Verdicts.{Call, notice, advance, quiet-start, refresh, drift, grant-set, lease-set, lease-cnt, time-left, Verdict, refused, done, byNotice, byAdvance, byPlain, bySet, byCount, byTimeLeft, verdict}
 use Rattle.log.specs.Log.{Journal, journalAt, Run, stepped, runFrom}
 use Rattle.log.specs.Demand3.{LogDecides, runOf}
@@ -63,33 +61,15 @@ module _ (m : Manager) where
   -- lent: a refusal leaves the very record
   lent-notice : (num : LeaseNum) (x : LeaseNotice) → noticeOf m num x .manager ≡ leftBy m (verdict m (notice num x))
   unfolding noticeOf
-  lent-notice num x = go (recordValid m) (eqb code 0)
-    where
-      code : ℕ
-      code = noticeRefusal (m .population) (m .me) x
-
-      same : NoticeAnswer → Type 0
-      same n = n .manager ≡ leftBy m (byNotice (n .outcome) (n .manager))
-
-      go : (b z : Bool) → same (cond b (cond z (noticeGiven (acceptedOf m num x)) (record { outcome = NO.Refused code; manager = m })) (record { outcome = NO.Refused 15; manager = m }))
-      go true true = refl
-      go true false = refl
-      go false z = refl
+  lent-notice num x =
+      judged-by (λ (a : NoticeAnswer). a .manager ≡ leftBy m (byNotice (a .outcome) (a .manager))) (recordValid m) (noticeRefusal (m .population) (m .me) x)
+      (λ k. record { outcome = NO.Refused k; manager = m }) (noticeGiven (acceptedOf m num x)) (λ k. refl) (λ z. refl)
 
   lent-advance : (to : Reading) → advanceOf m to .manager ≡ leftBy m (verdict m (advance to))
   unfolding advanceOf advanceTo
-  lent-advance to = go (recordValid m) (eqb code 0)
-    where
-      code : ℕ
-      code = advanceRefusal (m .now) to
-
-      same : AdvanceAnswer → Type 0
-      same n = n .manager ≡ leftBy m (byAdvance (n .outcome) (n .manager))
-
-      go : (b z : Bool) → same (cond b (cond z (advanceTo m to) (record { outcome = AO.Refused code; manager = m })) (record { outcome = AO.Refused 15; manager = m }))
-      go true true = refl
-      go true false = refl
-      go false z = refl
+  lent-advance to =
+      judged-by (λ (a : AdvanceAnswer). a .manager ≡ leftBy m (byAdvance (a .outcome) (a .manager))) (recordValid m) (advanceRefusal (m .now) to)
+      (λ k. record { outcome = AO.Refused k; manager = m }) (advanceTo m to) (λ k. refl) (λ z. refl)
 
   -- questions
   ask-set : (o : SetOutcome) → m ≡ leftBy m (bySet o m)

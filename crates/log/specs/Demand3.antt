@@ -2,7 +2,7 @@
 -- decides the grant set, the lease set and the count. Definitions only; proved in proofs/Demand3.
 use mathlib.Core.Path.{_≡_}
 use mathlib.Core.List.{List, [], _∷_}
-use mathlib.Core.Bool.{Bool, true, not, cond}
+use mathlib.Core.Bool.{true, not, cond}
 use Prim.Native.Nat.{ℕ, _+_}
 use lib.Dec.{eqb}
 use mir.Syntax.{w8}

@@ -2,8 +2,7 @@
 -- only; proved in proofs/Edges.
 use mathlib.Core.Path.{_≡_}
 use mathlib.Core.List.{List, [], _∷_}
-use mathlib.Core.Bool.{true, false}
-use Prim.Native.Nat.{ℕ}
+use mathlib.Core.Bool.{false}
 use Rattle.bitmap.specs.Bitmaps.{bitmapOf}
 use Rattle.lease.specs.declared.AcceptBar.the-variants as B
 use Rattle.lease.specs.declared.PeerSet.the-variants.{All}
@@ -14,7 +13,6 @@ use Rattle.lease.specs.declared.LeaseNotice.the-variants as N
 use Rattle.lease.specs.declared.Lines.the-variants as L
 use Rattle.lease.specs.declared.QuietEnd.the-variants as QE
 use Rattle.lease.specs.declared.Manager.{Manager}
-use Rattle.lease.specs.declared.NoticeOutcome.{NoticeOutcome}
 use Rattle.lease.specs.declared.NoticeOutcome.the-variants as NO
 use Rattle.lease.specs.declared.AdvanceOutcome.the-variants as AO
 use Rattle.lease.specs.declared.SetOutcome.the-variants as SO
