@@ -1,4 +1,5 @@
--- What each call of the bitmap answers: its refusals in document 01's order, 12, 10, 11, 13, then the set, the flag or the count.
+-- What each call of module 1 answers: its refusals in document 01's order, 12, 10, 11, 13, then the set, the flag or the count.
+-- The calls stand in bitmap_calls, from_ids and ones in bitmap_lists.
 -- A set is made by a test on the ids below its size, and `isOne` reads a set, so ones at or above the size count as zeros
 -- and are zero in every set handed back. Definitions only.
 use Prim.Native.Nat.{ℕ, zero, suc}

@@ -80,46 +80,52 @@ fn show_bytes(bytes: [u8; 4]) {
 fn sets() {
     // The number 9 has a one at 3, above the size: it counts as a zero.
     let odd = Bitmap { size: 3, bits: 9 };
-    show_set(b"new 3, all", bitmap::new(3, true));
-    show_set(b"new 0", bitmap::new(0, false));
-    show_set(b"new 65", bitmap::new(65, false));
-    show_set(b"set 2 of {0} of 3", bitmap::set(odd, 2, true));
-    show_set(b"set 300 of {0} of 3", bitmap::set(odd, 300, true));
+    show_set(b"new 3, all", bitmap_calls::new(3, true));
+    show_set(b"new 0", bitmap_calls::new(0, false));
+    show_set(b"new 65", bitmap_calls::new(65, false));
+    show_set(b"set 2 of {0} of 3", bitmap_calls::set(odd, 2, true));
+    show_set(b"set 300 of {0} of 3", bitmap_calls::set(odd, 300, true));
 }
 
 fn set_questions() {
     let odd = Bitmap { size: 3, bits: 9 };
-    show_flag(b"get 0 of {0} of 3", bitmap::get(odd, 0));
-    show_flag(b"get 3 of {0} of 3", bitmap::get(odd, 3));
-    show_count(b"size of {0} of 3", bitmap::size(odd));
-    show_count(b"count of {0} of 3", bitmap::count(odd));
+    show_flag(b"get 0 of {0} of 3", bitmap_calls::get(odd, 0));
+    show_flag(b"get 3 of {0} of 3", bitmap_calls::get(odd, 3));
+    show_count(b"size of {0} of 3", bitmap_calls::size(odd));
+    show_count(b"count of {0} of 3", bitmap_calls::count(odd));
 }
 
 fn set_changes() {
     let odd = Bitmap { size: 3, bits: 9 };
     let wide = Bitmap { size: 64, bits: 5 };
-    show_set(b"flip {0} of 3", bitmap::flip(odd));
-    show_set(b"union of sizes 3 and 64", bitmap::union(odd, wide));
-    show_set(b"union of {0} and {0} of 3", bitmap::union(odd, odd));
-    show_set(b"clear {0} of 3", bitmap::clear(odd));
+    show_set(b"flip {0} of 3", bitmap_calls::flip(odd));
+    show_set(b"union of sizes 3 and 64", bitmap_calls::union(odd, wide));
+    show_set(b"union of {0} and {0} of 3", bitmap_calls::union(odd, odd));
+    show_set(b"clear {0} of 3", bitmap_calls::clear(odd));
 }
 
 fn supersets() {
     let odd = Bitmap { size: 3, bits: 9 };
     let wide = Bitmap { size: 64, bits: 5 };
-    show_flag(b"{0, 2} of 64 has {0} of 3", bitmap::is_superset(wide, odd));
-    show_flag(b"{0} of 3 has {0, 2} of 64", bitmap::is_superset(odd, wide));
+    show_flag(
+        b"{0, 2} of 64 has {0} of 3",
+        bitmap_calls::is_superset(wide, odd),
+    );
+    show_flag(
+        b"{0} of 3 has {0, 2} of 64",
+        bitmap_calls::is_superset(odd, wide),
+    );
 }
 
 fn built_sets() {
-    show_set(b"range 1..3 of 3", bitmap::from_range(3, 1, 3));
-    show_set(b"range 1..4 of 3", bitmap::from_range(3, 1, 4));
-    show_set(b"range 9..2 of 3", bitmap::from_range(3, 9, 2));
+    show_set(b"range 1..3 of 3", bitmap_calls::from_range(3, 1, 3));
+    show_set(b"range 1..4 of 3", bitmap_calls::from_range(3, 1, 4));
+    show_set(b"range 9..2 of 3", bitmap_calls::from_range(3, 9, 2));
 }
 
 fn listed_sets() {
-    show_set(b"ids 2, 0, 2 of 3", bitmap::from_ids(3, &[2, 0, 2]));
-    show_set(b"ids 2, 3 of 3", bitmap::from_ids(3, &[2, 3]));
+    show_set(b"ids 2, 0, 2 of 3", bitmap_lists::from_ids(3, &[2, 0, 2]));
+    show_set(b"ids 2, 3 of 3", bitmap_lists::from_ids(3, &[2, 3]));
 }
 
 // Bytes past the ids keep their contents; on a refusal every byte does.
@@ -128,7 +134,7 @@ fn ids_into_one() {
     let mut bytes = [255u8; 4];
     show_count(
         b"ids of {0, 2} into 1 byte",
-        bitmap::ones(wide, &mut bytes[..1]),
+        bitmap_lists::ones(wide, &mut bytes[..1]),
     );
     show_bytes(bytes);
 }
@@ -138,7 +144,7 @@ fn ids_into_four() {
     let mut bytes = [255u8; 4];
     show_count(
         b"ids of {0, 2} into 4 bytes",
-        bitmap::ones(wide, &mut bytes),
+        bitmap_lists::ones(wide, &mut bytes),
     );
     show_bytes(bytes);
 }

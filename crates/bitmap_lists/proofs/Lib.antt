@@ -1,0 +1,2 @@
+-- The laws of lists of ids, beside the functions' proofs.
+pub mod Lists

@@ -1,0 +1,2 @@
+-- What the pass over the ids takes and chooses.
+pub mod Rules
