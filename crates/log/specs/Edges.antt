@@ -22,7 +22,7 @@ use Rattle.lease.specs.Verdicts.{Call, notice, advance, quiet-start, refresh, d
 use Rattle.lease.specs.Shift.{ms, start, no, under}
 use Rattle.log.specs.Log.{Run, promiseLines, endedLines}
 use Rattle.log.specs.Demand3.{runOf}
-use Rattle.log.specs.Program.{afterNotice, Step, Demand3For, GrantSet, LeaseSet, LeaseCnt}
+use Rattle.log.specs.Program.{Ruled, Demand3For, GrantSet, LeaseSet, LeaseCnt}
 
 -- population 3, own id 0, T = 1 s, start 0
 abbrev pub shiftRun : List Call → Run
@@ -54,17 +54,17 @@ pub record OneCounts : Type 0 where
 
 -- ---- impostors
 
--- All calls but notices as the contracts say, and notices by P.
+-- All calls but notices as the rules say, and notices by P.
 abbrev pub NoticesBy : (Manager → LeaseNum → Manager → Type 0) → Manager → Call → Manager → Type 0
 NoticesBy P m (notice num x) m' = P m num m'
-NoticesBy P m (advance to) m' = Step m (advance to) m'
-NoticesBy P m quiet-start m' = Step m quiet-start m'
-NoticesBy P m (refresh set) m' = Step m (refresh set) m'
-NoticesBy P m (drift x) m' = Step m (drift x) m'
-NoticesBy P m grant-set m' = Step m grant-set m'
-NoticesBy P m lease-set m' = Step m lease-set m'
-NoticesBy P m lease-cnt m' = Step m lease-cnt m'
-NoticesBy P m (time-left p) m' = Step m (time-left p) m'
+NoticesBy P m (advance to) m' = Ruled m (advance to) m'
+NoticesBy P m quiet-start m' = Ruled m quiet-start m'
+NoticesBy P m (refresh set) m' = Ruled m (refresh set) m'
+NoticesBy P m (drift x) m' = Ruled m (drift x) m'
+NoticesBy P m grant-set m' = Ruled m grant-set m'
+NoticesBy P m lease-set m' = Ruled m lease-set m'
+NoticesBy P m lease-cnt m' = Ruled m lease-cnt m'
+NoticesBy P m (time-left p) m' = Ruled m (time-left p) m'
 
 -- Demand 3 of a manager with such notices, from the Shift examples' set-up.
 abbrev pub ShiftDemand3 : (Manager → LeaseNum → Manager → Type 0) → Type 0
@@ -81,7 +81,7 @@ UntouchedFails = ShiftDemand3 Untouched → ⊥
 abbrev pub RepliesFalse : Manager → LeaseNum → Manager → Type 0
 RepliesFalse m num m' =
     (r : NoticeAnswer) × ((r ≡ record { outcome = NO.Done (L.One (record { 0 = num; 1 = A.SendLeaseMsg 2 (M.PromiseReply false) })); manager = m })
-    × (m' ≡ afterNotice m (r .outcome) (r .manager)))
+    × (m' ≡ r .manager))
 
 abbrev pub RepliesFalseFails : Type 0
 RepliesFalseFails = ShiftDemand3 RepliesFalse → ⊥
