@@ -1,0 +1,34 @@
+-- `calls::advance_to` meets its contract. Assumes nothing.
+use Rattle.lease.specs.Calls.{advanceTo}
+use Rattle.passes.specs.Fits.{RowsFit}
+use borrow.Author.Needs.{needs}
+use Rattle.calls.proofs.advance_to.Statement.{statement}
+use Rattle.calls.proofs.advance_to.Tie as tie
+use Rattle.calls.proofs.advance_to.Reads as reads
+use Rattle.calls.proofs.advance_to.Lts as lts
+use Rattle.quiet.proofs.quiet_at.Reads as quiet-at-reads
+use Rattle.quiet.proofs.quiet_end.Reads as quiet-end-reads
+use Rattle.quiet.proofs.quiet_fires.Reads as quiet-fires-reads
+use Rattle.passes.proofs.pass_over.Reads as pass-over-reads
+
+pass-over-requires : tie.Need-pass-over-requires
+unfolding RowsFit
+pass-over-requires c κs = (search needs, λ i h. tt)
+
+quiet-fires-requires : tie.Need-quiet-fires-requires
+quiet-fires-requires c κs = search needs
+
+quiet-at-requires : tie.Need-quiet-at-requires
+quiet-at-requires c κs = search needs
+
+quiet-end-requires : tie.Need-quiet-end-requires
+quiet-end-requires c κs = search needs
+
+returns : tie.Need-returns
+unfolding advanceTo
+returns c = simp (c .before .before .before .before .quiet-end .ensures, c .before .before .before .before .before .quiet-at .ensures, c .before .before .before .before .before .before .quiet-fires .ensures, ← c .before .before .before .before .before .before .before .pass-over .ensures)
+
+pub advance-to-spec : {M : Type 1} → statement M
+advance-to-spec =
+    tie.close
+    (tie.spec pass-over-requires quiet-fires-requires quiet-at-requires quiet-end-requires returns)

@@ -1,0 +1,155 @@
+// Refusal 15 on one row: its timers and sides, or that it is empty. Every contract says that the result
+// equals a definition of lease/specs/RecordCheck.
+use lease::Entry;
+use lease::Grant;
+use lease::Peer;
+use lease::ReplicaId;
+use rows::both;
+use rows::either;
+use rows::is_granted;
+use rows::is_present;
+use timer::Reading;
+use timer::Timer;
+ghost use mathlib.Core.Path.{_≡_};
+ghost use Rattle.lease.specs.RecordCheck.{deadlineValid, unarmed, sentGuardValid, timerValid, entryValid, grantValid};
+ghost use Rattle.lease.specs.RecordCheck.{timersValid, sidesValid, rowValid, entriesEmpty, rowEmpty, rowValidAt};
+
+// How far past the reading a deadline may be: 3,000 s.
+const FARTHEST: u64 = 3_000_000_000_000;
+
+// A deadline is above the reading and at most 3,000 s past it.
+pub fn is_valid_deadline(now: Reading, deadline: Reading) -> bool
+    ensures { λ r. ⌜ r ≡ deadlineValid now deadline ⌝ }
+{
+    if deadline.0 <= now.0 {
+        return false;
+    }
+    deadline.0 - now.0 <= FARTHEST
+}
+
+fn is_unarmed(timer: Timer) -> bool
+    ensures { λ r. ⌜ r ≡ unarmed timer ⌝ }
+{
+    match timer {
+        Timer::Unarmed => true,
+        Timer::Armed(_) => false,
+        Timer::Exploded => false,
+    }
+}
+
+// A sent guard is neither armed nor exploded.
+fn is_valid_sent_guard(entry: Entry) -> bool
+    ensures { λ r. ⌜ r ≡ sentGuardValid entry ⌝ }
+{
+    match entry {
+        Entry::Absent => true,
+        Entry::Present(timer) => is_unarmed(timer),
+    }
+}
+
+// A timer of another table is not unarmed.
+fn is_valid_timer(now: Reading, timer: Timer) -> bool
+    ensures { λ r. ⌜ r ≡ timerValid now timer ⌝ }
+{
+    match timer {
+        Timer::Unarmed => false,
+        Timer::Armed(deadline) => is_valid_deadline(now, deadline),
+        Timer::Exploded => true,
+    }
+}
+
+fn is_valid_entry(now: Reading, entry: Entry) -> bool
+    ensures { λ r. ⌜ r ≡ entryValid now entry ⌝ }
+{
+    match entry {
+        Entry::Absent => true,
+        Entry::Present(timer) => is_valid_timer(now, timer),
+    }
+}
+
+fn is_valid_grant(now: Reading, grant: Grant) -> bool
+    ensures { λ r. ⌜ r ≡ grantValid now grant ⌝ }
+{
+    match grant {
+        Grant::Absent => true,
+        Grant::Present(timer, _) => is_valid_timer(now, timer),
+    }
+}
+
+fn are_valid_timers(now: Reading, row: Peer) -> bool
+    ensures { λ r. ⌜ r ≡ timersValid now row ⌝ }
+{
+    let guard_sent = row.guard_sent;
+    let promise_sent = row.promise_sent;
+    let guard_held = row.guard_held;
+    let promise_held = row.promise_held;
+    let a = is_valid_sent_guard(guard_sent);
+    let b = is_valid_grant(now, promise_sent);
+    let c = is_valid_entry(now, guard_held);
+    let d = is_valid_entry(now, promise_held);
+    let sent = both(a, b);
+    let held = both(c, d);
+    both(sent, held)
+}
+
+// The peer is not in both tables of one side.
+fn are_valid_sides(row: Peer) -> bool
+    ensures { λ r. ⌜ r ≡ sidesValid row ⌝ }
+{
+    let guard_sent = row.guard_sent;
+    let promise_sent = row.promise_sent;
+    let guard_held = row.guard_held;
+    let promise_held = row.promise_held;
+    let a = is_present(guard_sent);
+    let b = is_granted(promise_sent);
+    let c = is_present(guard_held);
+    let d = is_present(promise_held);
+    let sent = either(!a, !b);
+    let held = either(!c, !d);
+    both(sent, held)
+}
+
+fn is_valid_row(now: Reading, row: Peer) -> bool
+    ensures { λ r. ⌜ r ≡ rowValid now row ⌝ }
+{
+    let timers = are_valid_timers(now, row);
+    let sides = are_valid_sides(row);
+    both(timers, sides)
+}
+
+fn are_empty_entries(row: Peer) -> bool
+    ensures { λ r. ⌜ r ≡ entriesEmpty row ⌝ }
+{
+    let guard_sent = row.guard_sent;
+    let promise_sent = row.promise_sent;
+    let guard_held = row.guard_held;
+    let promise_held = row.promise_held;
+    let a = is_present(guard_sent);
+    let b = is_granted(promise_sent);
+    let c = is_present(guard_held);
+    let d = is_present(promise_held);
+    let sent = both(!a, !b);
+    let held = both(!c, !d);
+    both(sent, held)
+}
+
+// No entry and no mark.
+fn is_empty_row(row: Peer) -> bool
+    ensures { λ r. ⌜ r ≡ rowEmpty row ⌝ }
+{
+    let entries = are_empty_entries(row);
+    if row.refresh_mark { false } else { entries }
+}
+
+// The row of the id i: a peer's, or one that must be empty.
+pub fn is_valid_at(own: ReplicaId, population: usize, now: Reading, i: usize, row: Peer) -> bool
+    ensures { λ r. ⌜ r ≡ rowValidAt own population now i row ⌝ }
+{
+    if i < population {
+        if i == own {
+            return is_empty_row(row);
+        }
+        return is_valid_row(now, row);
+    }
+    is_empty_row(row)
+}
