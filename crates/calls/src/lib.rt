@@ -7,6 +7,7 @@ use lease::AdvanceOutcome;
 use lease::DriftSetting;
 use lease::Manager;
 use lease::Pass;
+use lease::Peer;
 use lease::PeerSet;
 use lease::QuietTimer;
 use lease::RefreshAnswer;
@@ -18,21 +19,21 @@ use quiet::quiet_fires;
 use timer::Reading;
 use timer::drift_of;
 ghost use mathlib.Core.Path.{_≡_};
-ghost use Rattle.lease.specs.Calls.{assumeUnknownGrants, advanceTo, attemptRefresh, clockOf, setDrift};
+ghost use Rattle.lease.specs.Calls.{withTime, assumeUnknownGrants, advanceTo, attemptRefresh, clockOf, setDrift};
 ghost use Rattle.passes.specs.Fits.{ManagerFits};
 ghost use Rattle.calls.specs.Fits.{NearRows};
 
-// The quiet timer is armed for the drifted 2T, replacing an earlier one.
-pub fn start_quiet(m: Manager) -> Manager
-    requires { ⌜ ManagerFits m ⌝ }
-    ensures { λ r. ⌜ r ≡ assumeUnknownGrants m ⌝ }
+// The record with another reading, clock and quiet timer, and other rows.
+fn with_time(
+    m: Manager,
+    now: Reading,
+    clock: Clock,
+    quiet_timer: QuietTimer,
+    peers: [Peer; 64],
+) -> Manager
+    ensures { λ r. ⌜ r ≡ withTime m now clock «quiet_timer» peers ⌝ }
 {
-    let clock = m.clock;
-    let now = m.now;
     let active_num = m.active_num;
-    let by = drift_of(clock, 2 * m.expire_timeout);
-    let quiet_timer = QuietTimer::Until(Reading(now.0 + by));
-    let peers = m.peers;
     Manager {
         me: m.me,
         population: m.population,
@@ -43,6 +44,19 @@ pub fn start_quiet(m: Manager) -> Manager
         quiet_timer,
         peers,
     }
+}
+
+// The quiet timer is armed for the drifted 2T, replacing an earlier one.
+pub fn start_quiet(m: Manager) -> Manager
+    requires { ⌜ ManagerFits m ⌝ }
+    ensures { λ r. ⌜ r ≡ assumeUnknownGrants m ⌝ }
+{
+    let clock = m.clock;
+    let now = m.now;
+    let by = drift_of(clock, 2 * m.expire_timeout);
+    let quiet_timer = QuietTimer::Until(Reading(now.0 + by));
+    let peers = m.peers;
+    with_time(m, now, clock, quiet_timer, peers)
 }
 
 // The clock is set, and what is due explodes.
@@ -59,18 +73,8 @@ pub fn advance_to(m: Manager, to: Reading) -> AdvanceAnswer
     let sent = p.first;
     let held = p.second;
     let after = p.peers;
-    let active_num = m.active_num;
     let clock = m.clock;
-    let manager = Manager {
-        me: m.me,
-        population: m.population,
-        expire_timeout: m.expire_timeout,
-        now: to,
-        active_num,
-        clock,
-        quiet_timer,
-        peers: after,
-    };
+    let manager = with_time(m, to, clock, quiet_timer, after);
     AdvanceAnswer {
         outcome: AdvanceOutcome::Fired(sent, held, end),
         manager,
@@ -112,17 +116,7 @@ pub fn set_clock(m: Manager, setting: DriftSetting) -> Manager
 {
     let clock = clock_of(setting);
     let now = m.now;
-    let active_num = m.active_num;
     let quiet_timer = m.quiet_timer;
     let peers = m.peers;
-    Manager {
-        me: m.me,
-        population: m.population,
-        expire_timeout: m.expire_timeout,
-        now,
-        active_num,
-        clock,
-        quiet_timer,
-        peers,
-    }
+    with_time(m, now, clock, quiet_timer, peers)
 }

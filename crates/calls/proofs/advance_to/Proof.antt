@@ -6,10 +6,11 @@ use Rattle.calls.proofs.advance_to.Statement.{statement}
 use Rattle.calls.proofs.advance_to.Tie as tie
 use Rattle.calls.proofs.advance_to.Reads as reads
 use Rattle.calls.proofs.advance_to.Lts as lts
+use Rattle.calls.proofs.with_time.Reads as with-time-reads
+use Rattle.passes.proofs.pass_over.Reads as pass-over-reads
 use Rattle.quiet.proofs.quiet_at.Reads as quiet-at-reads
 use Rattle.quiet.proofs.quiet_end.Reads as quiet-end-reads
 use Rattle.quiet.proofs.quiet_fires.Reads as quiet-fires-reads
-use Rattle.passes.proofs.pass_over.Reads as pass-over-reads
 
 pass-over-requires : tie.Need-pass-over-requires
 unfolding RowsFit
@@ -24,11 +25,20 @@ quiet-at-requires c κs = search needs
 quiet-end-requires : tie.Need-quiet-end-requires
 quiet-end-requires c κs = search needs
 
+with-time-requires : tie.Need-with-time-requires
+with-time-requires c κs = search needs
+
 returns : tie.Need-returns
 unfolding advanceTo
-returns c = simp (c .before .before .before .before .quiet-end .ensures, c .before .before .before .before .before .quiet-at .ensures, c .before .before .before .before .before .before .quiet-fires .ensures, ← c .before .before .before .before .before .before .before .pass-over .ensures)
+returns c = simp (c .with-time .ensures, c .before .before .before .before .quiet-end .ensures, c .before .before .before .before .before .quiet-at .ensures, c .before .before .before .before .before .before .quiet-fires .ensures, ← c .before .before .before .before .before .before .before .pass-over .ensures)
 
 pub advance-to-spec : {M : Type 1} → statement M
 advance-to-spec =
     tie.close
-    (tie.spec pass-over-requires quiet-fires-requires quiet-at-requires quiet-end-requires returns)
+    (tie.spec
+    pass-over-requires
+    quiet-fires-requires
+    quiet-at-requires
+    quiet-end-requires
+    with-time-requires
+    returns)
