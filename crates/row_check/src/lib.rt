@@ -11,6 +11,7 @@ use rows::is_present;
 use timer::Reading;
 use timer::Timer;
 ghost use mathlib.Core.Path.{_≡_};
+ghost use Rattle.lease.specs.Rows.{present, granted};
 ghost use Rattle.lease.specs.RecordCheck.{deadlineValid, unarmed, sentGuardValid, timerValid, entryValid, grantValid};
 ghost use Rattle.lease.specs.RecordCheck.{timersValid, sidesValid, rowValid, entriesEmpty, rowEmpty, rowValidAt};
 
@@ -92,20 +93,36 @@ fn are_valid_timers(now: Reading, row: Peer) -> bool
     both(sent, held)
 }
 
-// The peer is not in both tables of one side.
-fn are_valid_sides(row: Peer) -> bool
-    ensures { λ r. ⌜ r ≡ sidesValid row ⌝ }
+// In which tables the row has an entry.
+struct InTables {
+    guard_sent: bool,
+    promise_sent: bool,
+    guard_held: bool,
+    promise_held: bool,
+}
+
+fn in_tables(row: Peer) -> InTables
+    ensures { λ r. ⌜ (r .«guard_sent» ≡ present (row .«guard_sent»)) × (r .«promise_sent» ≡ granted (row .«promise_sent»)) × (r .«guard_held» ≡ present (row .«guard_held»)) × (r .«promise_held» ≡ present (row .«promise_held»)) ⌝ }
 {
     let guard_sent = row.guard_sent;
     let promise_sent = row.promise_sent;
     let guard_held = row.guard_held;
     let promise_held = row.promise_held;
-    let a = is_present(guard_sent);
-    let b = is_granted(promise_sent);
-    let c = is_present(guard_held);
-    let d = is_present(promise_held);
-    let sent = either(!a, !b);
-    let held = either(!c, !d);
+    InTables {
+        guard_sent: is_present(guard_sent),
+        promise_sent: is_granted(promise_sent),
+        guard_held: is_present(guard_held),
+        promise_held: is_present(promise_held),
+    }
+}
+
+// The peer is not in both tables of one side.
+fn are_valid_sides(row: Peer) -> bool
+    ensures { λ r. ⌜ r ≡ sidesValid row ⌝ }
+{
+    let t = in_tables(row);
+    let sent = either(!t.guard_sent, !t.promise_sent);
+    let held = either(!t.guard_held, !t.promise_held);
     both(sent, held)
 }
 
@@ -120,16 +137,9 @@ fn is_valid_row(now: Reading, row: Peer) -> bool
 fn are_empty_entries(row: Peer) -> bool
     ensures { λ r. ⌜ r ≡ entriesEmpty row ⌝ }
 {
-    let guard_sent = row.guard_sent;
-    let promise_sent = row.promise_sent;
-    let guard_held = row.guard_held;
-    let promise_held = row.promise_held;
-    let a = is_present(guard_sent);
-    let b = is_granted(promise_sent);
-    let c = is_present(guard_held);
-    let d = is_present(promise_held);
-    let sent = both(!a, !b);
-    let held = both(!c, !d);
+    let t = in_tables(row);
+    let sent = both(!t.guard_sent, !t.promise_sent);
+    let held = both(!t.guard_held, !t.promise_held);
     both(sent, held)
 }
 

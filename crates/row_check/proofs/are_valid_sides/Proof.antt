@@ -1,25 +1,15 @@
--- `row_check::are_valid_sides` meets its contract. Assumes nothing.
+-- `row_check::are_valid_sides` meets its contract, from the tables that the row is in. Assumes nothing.
 use borrow.Author.Needs.{needs}
 use Rattle.row_check.proofs.are_valid_sides.Statement.{statement}
 use Rattle.row_check.proofs.are_valid_sides.Tie as tie
 use Rattle.row_check.proofs.are_valid_sides.Reads as reads
 use Rattle.row_check.proofs.are_valid_sides.Lts as lts
+use Rattle.row_check.proofs.in_tables.Reads as in-tables-reads
 use Rattle.rows.proofs.both.Reads as both-reads
 use Rattle.rows.proofs.either.Reads as either-reads
-use Rattle.rows.proofs.is_granted.Reads as is-granted-reads
-use Rattle.rows.proofs.is_present.Reads as is-present-reads
 
-is-present-requires : tie.Need-is-present-requires
-is-present-requires c κs = search needs
-
-is-granted-requires : tie.Need-is-granted-requires
-is-granted-requires c κs = search needs
-
-is-present-requires-2 : tie.Need-is-present-requires-2
-is-present-requires-2 c κs = search needs
-
-is-present-requires-3 : tie.Need-is-present-requires-3
-is-present-requires-3 c κs = search needs
+in-tables-requires : tie.Need-in-tables-requires
+in-tables-requires c κs = search needs
 
 either-requires : tie.Need-either-requires
 either-requires c κs = search needs
@@ -31,17 +21,10 @@ both-requires : tie.Need-both-requires
 both-requires c κs = search needs
 
 returns : tie.Need-returns
-returns c = simp (c .both .ensures, ← c .before .either2 .ensures, ← c .before .before .either .ensures, ← c .before .before .before .is-present3 .ensures, ← c .before .before .before .before .is-present2 .ensures, ← c .before .before .before .before .before .is-granted .ensures, ← c .before .before .before .before .before .before .is-present .ensures)
+returns c =
+    let t = c .before .before .before .before .before .before .before .in-tables .ensures in
+    simp (c .both .ensures, c .before .either2 .ensures, c .before .before .before .before .either .ensures, t .0, t .1, t .2, t .3)
 
 pub are-valid-sides-spec : {M : Type 1} → statement M
 are-valid-sides-spec =
-    tie.close
-    (tie.spec
-    is-present-requires
-    is-granted-requires
-    is-present-requires-2
-    is-present-requires-3
-    either-requires
-    either-requires-2
-    both-requires
-    returns)
+    tie.close (tie.spec in-tables-requires either-requires either-requires-2 both-requires returns)
