@@ -9,7 +9,7 @@ use native.Mathlib.Omega.{arith}
 use lib.Dec.{T, ltb, eqb}
 use lib.ListN.{length, set, length-set}
 use lib.Seq.{getD-set-same, getD-set-other}
-use borrow.Author.Tests.{ne-eqb, lt-ltb, le-ltb}
+use borrow.Author.Tests.{eq-eqb, ne-eqb, lt-leb, lt-ltb, le-ltb}
 use Rattle.bitmap.specs.declared.Bitmap.{Bitmap}
 use Rattle.bitmap.specs.Sets.{one}
 use Rattle.drift.specs.declared.Clock.{Clock}
@@ -45,6 +45,7 @@ use Rattle.lease.specs.Rows.{rowAt, emptyRow}
 use Rattle.lease.specs.Passes.{named, passRow, rowAfter, passOver}
 use Rattle.lease.specs.Notices.{outdated, termOf, withPeers, passOn, handledAt, onPeer, handleNewGrants, handleDoRevoke, handleClearHeld, raisedTo, handleNotice, acceptedOf}
 use Rattle.lease.specs.Calls.{quietAt, advanceTo, assumeUnknownGrants, refreshPass, attemptRefresh, clockOf, setDrift}
+use Rattle.lease.proofs.Judged.{peer-below}
 use Rattle.lease.specs.Refusals.{peerRefusal, noticeRefusal}
 use Rattle.lease.specs.Verdicts.{drift, linesOf}
 use Rattle.log.specs.Demand3.{Typed}
@@ -243,12 +244,9 @@ module _ (m : Manager) (j : Journal) (i : Inv m j) where
   -- ---- about one peer
 
   pub peer-of : (q : ℕ) → peerRefusal (m .population) (m .me) q ≡ 0 → (q < m .population) × (q ≢ m .me)
-  peer-of q a = go (lebb (m .population) q) (sameb q (m .me)) a
-    where
-      go : AtMost (m .population) q → Same q (m .me) → peerRefusal (m .population) (m .me) q ≡ 0 → (q < m .population) × (q ≢ m .me)
-      go (Base.beyond x l) (apart y n) a = (l, n)
-      go (Base.beyond x l) (same y n) a = absurd (let z : _≡_ {A = ℕ} 8 0 = rw (x, y) at a in omega arith)
-      go (at-most x l) k a = absurd (let z : _≡_ {A = ℕ} 7 0 = rw x at a in omega arith)
+  peer-of q a =
+      let below = peer-below (m .population) (m .me) q a in
+      (below, λ own. absurd (let z : _≡_ {A = ℕ} 8 0 = rw (lt-leb (m .population) q below, eq-eqb q (m .me) own) at a in omega arith))
 
   -- an id that is no peer is not q
   no-peer-other : (p q : ℕ) → q < m .population → q ≢ m .me → isPeer (m .population) (m .me) p ≡ false → p ≢ q
