@@ -1,14 +1,27 @@
-// Runs document 01's Shift examples on the compiled manager, and each refusal of its calls. A line of the
-// output is one example: what is done and what document 01 says of it, then `ok` if the manager's answer
-// is that, or `WRONG`. A line with "then" goes on with the record of the line before; the others start
-// from set-up. The output is compared with the file stdout.
+// Runs the examples of its file stdin on the compiled manager: document 01's Shift examples, and each
+// refusal of the manager's calls. A line of the output is one example: what is done and what document 01
+// says of it, then `ok` if the manager's answer is that, or `WRONG`. A line with "then" goes on with the
+// record of the line before; the others start from set-up. The words of a call stand in example_calls and
+// example_questions, and N and A here are add_notice and advance over a lent record.
 use example_calls::Done;
+use example_calls::advanced;
+use example_calls::noticed;
 use example_calls::perform;
 use example_calls::start;
-use example_lines::lines::COUNT;
-use example_lines::lines::Case;
-use example_lines::lines::example;
+use example_questions::ask;
+use example_questions::is_question;
+use example_script::copy_saying;
+use example_script::expected;
+use example_script::letter;
+use example_script::notice;
+use example_script::word;
+use lease::LeaseNum;
+use lease::Manager;
 use std::num::wrapping_add_u64;
+use timer::Reading;
+
+// More lines than the file has.
+const TURNS: u64 = 1000;
 
 fn text(t: &[u8]) {
     let _written = io::write_all(1, t);
@@ -18,31 +31,56 @@ fn number(n: u64) {
     let _written = io::print_decimal(1, n);
 }
 
-// Writes whether the answer is the expected one, and how many are so far.
-fn judge(want: u64, got: u64, right: u64) -> u64 {
-    if want == got {
+fn add_notice_lending(m: Manager) -> Done {
+    let num = LeaseNum(word());
+    noticed(lent::add_notice_lending(m, num, notice()))
+}
+
+fn advance_lending(m: Manager) -> Done {
+    advanced(lent::advance_lending(m, Reading(word())))
+}
+
+fn asked(m: Manager, letter: u8) -> Done {
+    let answer = ask(m, letter);
+    Done { manager: m, answer }
+}
+
+// The call of a line.
+fn call(m: Manager) -> Done {
+    let first = letter();
+    if is_question(first) {
+        return asked(m, first);
+    }
+    match first {
+        b'N' => add_notice_lending(m),
+        b'A' => advance_lending(m),
+        _ => perform(m, first),
+    }
+}
+
+// Writes whether the answer is the expected one; 1 if it is.
+fn judge(got: u64) -> u64 {
+    if expected() == got {
         text(b": ok\n");
-        return wrapping_add_u64(right, 1);
+        return 1;
     }
     text(b": WRONG\n");
-    right
+    0
 }
 
 fn main() {
     let mut run = start();
     let mut right: u64 = 0;
-    let mut k: u64 = 0;
-    while k < COUNT {
-        let e: Case = example(k);
-        let act = e.act;
-        let before = run.manager;
-        let after: Done = perform(before, act);
-        run = after;
-        right = judge(e.want, run.answer, right);
-        k = k + 1;
+    let mut count: u64 = 0;
+    let mut turns: u64 = TURNS;
+    while turns > 0 && copy_saying() {
+        run = call(run.manager);
+        right = wrapping_add_u64(right, judge(run.answer));
+        count = wrapping_add_u64(count, 1);
+        turns -= 1;
     }
     number(right);
     text(b" of ");
-    number(COUNT);
+    number(count);
     text(b" lines ok\n");
 }

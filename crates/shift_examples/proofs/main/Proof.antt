@@ -1,67 +1,74 @@
--- `shift_examples::main` runs without fault, and ends: the number of the line grows to how many there are. Assumes nothing.
-use Prim.Native.Nat.{_≤_, _-_}
+-- `shift_examples::main` runs without fault, and ends: the turns that are left fall. Assumes nothing.
+use native.Mathlib.Omega.{arith}
 use borrow.Author.Needs.{needs}
 use Rattle.shift_examples.proofs.main.Statement.{statement}
 use Rattle.shift_examples.proofs.main.Tie as tie
 use Rattle.shift_examples.proofs.main.Reads as reads
 use Rattle.shift_examples.proofs.main.Lts as lts
-use Rattle.example_calls.proofs.perform.Reads as perform-reads
 use Rattle.example_calls.proofs.start.Reads as start-reads
-use Rattle.example_lines.proofs.lines.example.Reads as example-reads
+use Rattle.example_script.proofs.copy_saying.Reads as copy-saying-reads
+use Rattle.shift_examples.proofs.call.Reads as call-reads
 use Rattle.shift_examples.proofs.judge.Reads as judge-reads
 use Rattle.shift_examples.proofs.number.Reads as number-reads
 use Rattle.shift_examples.proofs.text.Reads as text-reads
+use Rattle.std.proofs.num.wrapping_add_u64.Reads as wrapping-add-u64-reads
 
 abbrev Inv-loop : tie.InvT-loop
-Inv-loop run₀ right₀ k₀ t8 t9 run right k = k ≤ 70
+Inv-loop run₀ right₀ count₀ turns₀ t5 t6 run right count turns = Unit {0}
 
 abbrev μ-loop : tie.MeasureT-loop
-μ-loop run₀ right₀ k₀ t8 t9 run right k = 70 - k
+μ-loop run₀ right₀ count₀ turns₀ t5 t6 run right count turns = turns
 
 start-requires : tie.Need-start-requires Inv-loop μ-loop
-start-requires c κs = search needs
+start-requires c κs = tt
 
 loop-holds : tie.Need-loop-holds Inv-loop μ-loop
-loop-holds c = search needs
+loop-holds c = tt
 
-example-requires : tie.Need-example-requires Inv-loop μ-loop
-example-requires c κs = search needs
+copy-saying-requires : tie.Need-copy-saying-requires Inv-loop μ-loop
+copy-saying-requires c κs = tt
 
-perform-requires : tie.Need-perform-requires Inv-loop μ-loop
-perform-requires c κs = search needs
+call-requires : tie.Need-call-requires Inv-loop μ-loop
+call-requires c κs = tt
 
 judge-requires : tie.Need-judge-requires Inv-loop μ-loop
-judge-requires c κs = search needs
+judge-requires c κs = tt
 
-add-k : tie.Need-add-k Inv-loop μ-loop
-add-k c = search needs
+wrapping-add-u64-requires : tie.Need-wrapping-add-u64-requires Inv-loop μ-loop
+wrapping-add-u64-requires c κs = tt
+
+wrapping-add-u64-requires-2 : tie.Need-wrapping-add-u64-requires-2 Inv-loop μ-loop
+wrapping-add-u64-requires-2 c κs = tt
+
+sub-turns : tie.Need-sub-turns Inv-loop μ-loop
+sub-turns c = omega arith
 
 loop-less : tie.Need-loop-less Inv-loop μ-loop
-loop-less c = search needs
+loop-less c = omega arith
 
 loop-again : tie.Need-loop-again Inv-loop μ-loop
-loop-again c = search needs
+loop-again c = tt
 
 number-requires : tie.Need-number-requires Inv-loop μ-loop
-number-requires c κs = search needs
+number-requires c κs = tt
 
 slice-aggregate-text : tie.Need-slice-aggregate-text Inv-loop μ-loop
 slice-aggregate-text c = search needs
 
 text-requires : tie.Need-text-requires Inv-loop μ-loop
-text-requires c κs = search needs
+text-requires c κs = tt
 
 number-requires-2 : tie.Need-number-requires-2 Inv-loop μ-loop
-number-requires-2 c κs = search needs
+number-requires-2 c κs = tt
 
 slice-aggregate-text-2 : tie.Need-slice-aggregate-text-2 Inv-loop μ-loop
 slice-aggregate-text-2 c = search needs
 
 text-requires-2 : tie.Need-text-requires-2 Inv-loop μ-loop
-text-requires-2 c κs = search needs
+text-requires-2 c κs = tt
 
 returns : tie.Need-returns Inv-loop μ-loop
-returns c = search needs
+returns c = tt
 
 pub main-spec : {M : Type 1} → statement M
 main-spec =
@@ -71,10 +78,12 @@ main-spec =
     μ-loop
     start-requires
     loop-holds
-    example-requires
-    perform-requires
+    copy-saying-requires
+    call-requires
     judge-requires
-    add-k
+    wrapping-add-u64-requires
+    wrapping-add-u64-requires-2
+    sub-turns
     loop-less
     loop-again
     number-requires
