@@ -19,7 +19,7 @@ use Rattle.lease.specs.declared.Manager.{Manager}
 use Rattle.lease.specs.Rows.{rowAt, present, granted}
 use Rattle.lease.specs.Limits.{timeoutValid, populationValid, ownValid, readingValid}
 use Rattle.lease.specs.RecordCheck.{timerValid, sentGuardValid, entryValid, grantValid, quietValid, timersValid, sidesValid, rowValid, entriesEmpty, rowEmpty, rowValidAt, rowsValid, limitsValid, recordValid}
-use Rattle.timed_visits.specs.Fits.{NearGrant}
+use Rattle.refresh_visits.specs.Fits.{NearGrant}
 use Rattle.passes.specs.Fits.{ManagerFits}
 use Rattle.calls.specs.Fits.{NearRows}
 

@@ -2,7 +2,7 @@
 use Prim.Native.Nat.{ℕ, _<_}
 use Rattle.lease.specs.declared.Manager.{Manager}
 use Rattle.lease.specs.Rows.{rowAt}
-use Rattle.timed_visits.specs.Fits.{NearGrant}
+use Rattle.refresh_visits.specs.Fits.{NearGrant}
 
 -- No sent promise's deadline is far past the reading.
 unfoldable pub NearRows : Manager → Type 0

@@ -1,18 +1,18 @@
 // Any notice about one peer on that peer's row: which handler it goes to, and the timer for it.
-use held::handle_msg_guard;
-use held::handle_msg_promise;
 use held_ends::handle_lease_timeout;
 use held_ends::handle_msg_revoke;
+use held_guard::handle_msg_guard;
+use held_promise::handle_msg_promise;
 use lease::Handled;
 use lease::LeaseMsg;
 use lease::Peer;
 use lease::PeerNotice;
 use lease::ReplicaId;
 use lease::Term;
-use sent::handle_msg_guard_reply;
-use sent::handle_msg_promise_reply;
 use sent_ends::handle_grant_timeout;
 use sent_ends::handle_msg_revoke_reply;
+use sent_guard::handle_msg_guard_reply;
+use sent_promise::handle_msg_promise_reply;
 use timer::Timer;
 use timer::kickoff;
 ghost use mathlib.Core.Path.{_≡_};

@@ -98,10 +98,10 @@ fn set_questions() {
 fn set_changes() {
     let odd = Bitmap { size: 3, bits: 9 };
     let wide = Bitmap { size: 64, bits: 5 };
-    show_set(b"flip {0} of 3", bitmap_calls::flip(odd));
-    show_set(b"union of sizes 3 and 64", bitmap_calls::union(odd, wide));
-    show_set(b"union of {0} and {0} of 3", bitmap_calls::union(odd, odd));
-    show_set(b"clear {0} of 3", bitmap_calls::clear(odd));
+    show_set(b"flip {0} of 3", bitmap_sets::flip(odd));
+    show_set(b"union of sizes 3 and 64", bitmap_sets::union(odd, wide));
+    show_set(b"union of {0} and {0} of 3", bitmap_sets::union(odd, odd));
+    show_set(b"clear {0} of 3", bitmap_sets::clear(odd));
 }
 
 fn supersets() {
@@ -109,18 +109,18 @@ fn supersets() {
     let wide = Bitmap { size: 64, bits: 5 };
     show_flag(
         b"{0, 2} of 64 has {0} of 3",
-        bitmap_calls::is_superset(wide, odd),
+        bitmap_sets::is_superset(wide, odd),
     );
     show_flag(
         b"{0} of 3 has {0, 2} of 64",
-        bitmap_calls::is_superset(odd, wide),
+        bitmap_sets::is_superset(odd, wide),
     );
 }
 
 fn built_sets() {
-    show_set(b"range 1..3 of 3", bitmap_calls::from_range(3, 1, 3));
-    show_set(b"range 1..4 of 3", bitmap_calls::from_range(3, 1, 4));
-    show_set(b"range 9..2 of 3", bitmap_calls::from_range(3, 9, 2));
+    show_set(b"range 1..3 of 3", bitmap_sets::from_range(3, 1, 3));
+    show_set(b"range 1..4 of 3", bitmap_sets::from_range(3, 1, 4));
+    show_set(b"range 9..2 of 3", bitmap_sets::from_range(3, 9, 2));
 }
 
 fn listed_sets() {
@@ -186,26 +186,38 @@ fn show_timer(label: &[u8], t: Timer) {
 fn timers() {
     let t = timer::kickoff(Clock::True, Reading(5000000), 1000000000);
     show_timer(b"1 s kicked off at 5 ms", t);
-    flag(b"active at 1,004 ms", timer::active(Reading(1004000000), t));
-    flag(b"active at 1,005 ms", timer::active(Reading(1005000000), t));
-    line(b"ms left at 400 ms", timer::left_ms(Reading(400000000), t));
+    flag(
+        b"active at 1,004 ms",
+        timer_readings::active(Reading(1004000000), t),
+    );
+    flag(
+        b"active at 1,005 ms",
+        timer_readings::active(Reading(1005000000), t),
+    );
+    line(
+        b"ms left at 400 ms",
+        timer_readings::left_ms(Reading(400000000), t),
+    );
     line(
         b"ms left at 400.5 ms",
-        timer::left_ms(Reading(400500000), t),
+        timer_readings::left_ms(Reading(400500000), t),
     );
 }
 
 fn fired() {
     let t = Timer::Armed(Reading(1005000000));
-    let e = timer::expire(Reading(1005000000), t);
+    let e = timer_readings::expire(Reading(1005000000), t);
     let after = e.timer;
     flag(b"fires at 1,005 ms", e.fired);
     show_timer(b"then", after);
     flag(
         b"fires again",
-        timer::expire(Reading(1006000000), after).fired,
+        timer_readings::expire(Reading(1006000000), after).fired,
     );
-    line(b"ms left then", timer::left_ms(Reading(1005000000), after));
+    line(
+        b"ms left then",
+        timer_readings::left_ms(Reading(1005000000), after),
+    );
 }
 
 fn extended() {

@@ -9,7 +9,7 @@ use lease::TimeLeft;
 use passes::pass_over;
 use quiet::is_quiet;
 use timer::Reading;
-use timer::left_ms;
+use timer_readings::left_ms;
 ghost use mathlib.Core.Path.{_≡_};
 ghost use Prim.Native.Nat.{_<_};
 ghost use Rattle.bitmap.specs.Bitmaps.{capacity};

@@ -9,7 +9,7 @@ use Rattle.lease.specs.declared.Pass.{Pass}
 use Rattle.lease.specs.declared.Pass.the-variants as P
 use Rattle.lease.specs.declared.Manager.{Manager}
 use Rattle.lease.specs.Rows.{rowAt}
-use Rattle.timed_visits.specs.Fits.{NearGrant}
+use Rattle.refresh_visits.specs.Fits.{NearGrant}
 
 -- A refresh alone asks something: that a deadline put off fits.
 abbrev pub RowFits : Pass → Peer → Type 0

@@ -1,14 +1,16 @@
-// One id's row: what is asked of its entries, and the row with one side anew. Every contract says that
-// the result equals a definition of lease/specs/Rows.
+// One id's row: what is asked of its entries, the row with one side anew, and the row as one that a pass has
+// visited. Every contract says that the result equals a definition of lease/specs/Rows or Passes.
 use lease::Entry;
 use lease::Grant;
 use lease::Peer;
+use lease::Visit;
 use timer::Reading;
-use timer::active;
-use timer::exploded;
+use timer_readings::active;
+use timer_readings::exploded;
 ghost use mathlib.Core.Path.{_≡_};
 ghost use mathlib.Core.Bool.{_&&_, _||_};
 ghost use Rattle.lease.specs.Rows.{withHeld, withSent, present, granted, unexploded, unexplodedGrant, activeEntry};
+ghost use Rattle.lease.specs.Passes.{inNone, inFirst};
 
 pub fn either(a: bool, b: bool) -> bool
     ensures { λ r. ⌜ r ≡ (a || b) ⌝ }
@@ -96,5 +98,27 @@ pub fn is_active(now: Reading, entry: Entry) -> bool
     match entry {
         Entry::Absent => false,
         Entry::Present(timer) => active(now, timer),
+    }
+}
+
+// The row in none of the pass's sets.
+pub fn in_none(row: Peer) -> Visit
+    ensures { λ r. ⌜ r ≡ inNone row ⌝ }
+{
+    Visit {
+        peer: row,
+        first: false,
+        second: false,
+    }
+}
+
+// The row in the pass's first set, if `is`.
+pub fn in_first(is: bool, row: Peer) -> Visit
+    ensures { λ r. ⌜ r ≡ inFirst is row ⌝ }
+{
+    Visit {
+        peer: row,
+        first: is,
+        second: false,
     }
 }

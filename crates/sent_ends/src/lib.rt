@@ -10,7 +10,7 @@ use rows::either;
 use rows::is_unexploded;
 use rows::is_unexploded_grant;
 use rows::with_sent;
-use timer::exploded;
+use timer_readings::exploded;
 ghost use mathlib.Core.Path.{_≡_};
 ghost use Rattle.lease.specs.Handlers.{handleMsgRevokeReply, handleGrantTimeout};
 

@@ -1,25 +1,16 @@
-// The rules about many peers that look at the clock, each on one row: advance, `attempt_refresh` and the
-// test of `lease_set`. Every contract says that the result equals a definition of lease/specs/Passes.
+// The rules about many peers that look at the reading alone, each on one row: advance, and the test of
+// `lease_set`. Every contract says that the result equals a definition of lease/specs/Passes.
 use lease::Entry;
 use lease::Grant;
 use lease::Peer;
 use lease::Visit;
-use rows::both;
 use rows::either;
+use rows::in_first;
 use rows::is_active;
-use rows::with_sent;
 use timer::Reading;
-use timer::expire;
-use timer::exploded;
-use timer::extend;
-use visits::in_first;
-use visits::in_none;
+use timer_readings::expire;
 ghost use mathlib.Core.Path.{_≡_};
-ghost use Prim.Native.Nat.{_≤_};
-ghost use Rattle.drift.specs.Drift.{longest};
-ghost use Rattle.timer.specs.Timers.{maxReading};
-ghost use Rattle.lease.specs.Passes.{expiredEntry, firesEntry, expiredGrant, firesGrant, advanceRow, refreshRow, leasedRow};
-ghost use Rattle.timed_visits.specs.Fits.{NearGrant};
+ghost use Rattle.lease.specs.Passes.{expiredEntry, firesEntry, expiredGrant, firesGrant, advanceRow, leasedRow};
 
 // An entry at a reading, and whether its timer fired.
 struct ExpiredEntry {
@@ -99,36 +90,6 @@ pub fn advance_row(now: Reading, row: Peer) -> Visit
         peer,
         first,
         second,
-    }
-}
-
-// `attempt_refresh`: a named, marked peer with a sent promise loses its mark; the promise is extended by
-// T as the clock has it, unless it is revoking or exploded.
-pub fn refresh_row(now: Reading, by: u64, named: bool, row: Peer) -> Visit
-    requires { ⌜ now .0 ≤ maxReading ⌝ }
-    requires { ⌜ by ≤ longest ⌝ }
-    requires { ⌜ NearGrant now (row .«promise_sent») ⌝ }
-    ensures { λ r. ⌜ r ≡ refreshRow now by named row ⌝ }
-{
-    let guard = row.guard_sent;
-    let promise = row.promise_sent;
-    let marked = both(named, row.refresh_mark);
-    match promise {
-        Grant::Absent => in_none(row),
-        Grant::Present(timer, revoking) => {
-            if marked {
-                let over = exploded(timer);
-                let stays = either(revoking, over);
-                if stays {
-                    let peer = with_sent(row, guard, Grant::Present(timer, revoking), false);
-                    return in_none(peer);
-                }
-                let after = extend(now, by, timer);
-                let peer = with_sent(row, guard, Grant::Present(after, false), false);
-                return in_first(true, peer);
-            }
-            in_none(row)
-        }
     }
 }
 

@@ -6,12 +6,10 @@ use drift::clock_drifted;
 ghost use mathlib.Core.Path.{_≡_};
 ghost use Prim.Native.Nat.{_≤_, max};
 ghost use Rattle.drift.specs.Drift.{longest};
-ghost use Rattle.timer.specs.Timers.{maxReading, Near, drifted, kickedOff, extendedBy, isActive, isExploded, msLeft, expiredAt};
+ghost use Rattle.timer.specs.Timers.{maxReading, Near, drifted, kickedOff, extendedBy};
 
 // The largest clock reading.
 pub const MAX_READING: u64 = 9_223_372_036_854_775_807;
-
-const NANOS_PER_MILLI: u64 = 1_000_000;
 
 // A clock reading in ns.
 pub struct Reading(pub u64);
@@ -68,73 +66,5 @@ pub fn extend(now: Reading, by: u64, timer: Timer) -> Timer
             }
         }
         Timer::Exploded => Timer::Exploded,
-    }
-}
-
-// Whether the timer is armed with a deadline above now.
-pub fn active(now: Reading, timer: Timer) -> bool
-    ensures { λ r. ⌜ r ≡ isActive now timer ⌝ }
-{
-    match timer {
-        Timer::Unarmed => false,
-        Timer::Armed(deadline) => now.0 < deadline.0,
-        Timer::Exploded => false,
-    }
-}
-
-// Whether the timer has exploded since it was last kicked off.
-pub fn exploded(timer: Timer) -> bool
-    ensures { λ r. ⌜ r ≡ isExploded timer ⌝ }
-{
-    match timer {
-        Timer::Unarmed => false,
-        Timer::Armed(_) => false,
-        Timer::Exploded => true,
-    }
-}
-
-// The timer at a reading: it fires if it is armed and its deadline is not above the reading.
-pub fn expire(now: Reading, timer: Timer) -> Expired
-    ensures { λ r. ⌜ r ≡ expiredAt now timer ⌝ }
-{
-    match timer {
-        Timer::Unarmed => Expired {
-            timer,
-            fired: false,
-        },
-        Timer::Armed(deadline) => {
-            if deadline.0 <= now.0 {
-                Expired {
-                    timer: Timer::Exploded,
-                    fired: true,
-                }
-            } else {
-                Expired {
-                    timer,
-                    fired: false,
-                }
-            }
-        }
-        Timer::Exploded => Expired {
-            timer,
-            fired: false,
-        },
-    }
-}
-
-// Deadline minus now in whole milliseconds, rounded down; 0 if the timer has run out or has none.
-pub fn left_ms(now: Reading, timer: Timer) -> u64
-    ensures { λ r. ⌜ r ≡ msLeft now timer ⌝ }
-{
-    match timer {
-        Timer::Unarmed => 0,
-        Timer::Armed(deadline) => {
-            if now.0 < deadline.0 {
-                (deadline.0 - now.0) / NANOS_PER_MILLI
-            } else {
-                0
-            }
-        }
-        Timer::Exploded => 0,
     }
 }

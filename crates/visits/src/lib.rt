@@ -5,34 +5,14 @@ use lease::Grant;
 use lease::Peer;
 use lease::Visit;
 use rows::both;
+use rows::in_first;
+use rows::in_none;
 use rows::is_granted;
 use rows::with_held;
 use rows::with_sent;
 use timer::Timer;
 ghost use mathlib.Core.Path.{_≡_};
-ghost use Rattle.lease.specs.Passes.{inNone, inFirst, newGrantsRow, doRevokeRow, clearHeldRow, higherNumberRow, grantedRow};
-
-// The row in none of the pass's sets.
-pub fn in_none(row: Peer) -> Visit
-    ensures { λ r. ⌜ r ≡ inNone row ⌝ }
-{
-    Visit {
-        peer: row,
-        first: false,
-        second: false,
-    }
-}
-
-// The row in the pass's first set, if `is`.
-pub fn in_first(is: bool, row: Peer) -> Visit
-    ensures { λ r. ⌜ r ≡ inFirst is row ⌝ }
-{
-    Visit {
-        peer: row,
-        first: is,
-        second: false,
-    }
-}
+ghost use Rattle.lease.specs.Passes.{newGrantsRow, doRevokeRow, clearHeldRow, higherNumberRow, grantedRow};
 
 // NewGrants: a named peer without a promise sent gets a fresh sent guard, unarmed.
 pub fn new_grants_row(named: bool, row: Peer) -> Visit

@@ -7,11 +7,11 @@ use Rattle.handlers.proofs.handle_msg.Reads as reads
 use Rattle.handlers.proofs.handle_msg.Lts as lts
 use Rattle.handlers.proofs.for_2t.Reads as for-2t-reads
 use Rattle.handlers.proofs.for_t.Reads as for-t-reads
-use Rattle.held.proofs.handle_msg_guard.Reads as handle-msg-guard-reads
-use Rattle.held.proofs.handle_msg_promise.Reads as handle-msg-promise-reads
+use Rattle.held_guard.proofs.handle_msg_guard.Reads as handle-msg-guard-reads
+use Rattle.held_promise.proofs.handle_msg_promise.Reads as handle-msg-promise-reads
 use Rattle.held_ends.proofs.handle_msg_revoke.Reads as handle-msg-revoke-reads
-use Rattle.sent.proofs.handle_msg_guard_reply.Reads as handle-msg-guard-reply-reads
-use Rattle.sent.proofs.handle_msg_promise_reply.Reads as handle-msg-promise-reply-reads
+use Rattle.sent_guard.proofs.handle_msg_guard_reply.Reads as handle-msg-guard-reply-reads
+use Rattle.sent_promise.proofs.handle_msg_promise_reply.Reads as handle-msg-promise-reply-reads
 use Rattle.sent_ends.proofs.handle_msg_revoke_reply.Reads as handle-msg-revoke-reply-reads
 
 enum-known-msg : tie.Need-enum-known-msg

@@ -4,7 +4,7 @@ use Rattle.lookups.proofs.left_on.Statement.{statement}
 use Rattle.lookups.proofs.left_on.Tie as tie
 use Rattle.lookups.proofs.left_on.Reads as reads
 use Rattle.lookups.proofs.left_on.Lts as lts
-use Rattle.timer.proofs.left_ms.Reads as left-ms-reads
+use Rattle.timer_readings.proofs.left_ms.Reads as left-ms-reads
 
 enum-told : tie.Need-enum-told
 enum-told c = search needs

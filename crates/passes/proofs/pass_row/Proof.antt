@@ -10,10 +10,10 @@ use Rattle.visits.proofs.clear_held_row.Reads as clear-held-row-reads
 use Rattle.visits.proofs.do_revoke_row.Reads as do-revoke-row-reads
 use Rattle.visits.proofs.granted_row.Reads as granted-row-reads
 use Rattle.visits.proofs.higher_number_row.Reads as higher-number-row-reads
-use Rattle.visits.proofs.in_first.Reads as in-first-reads
+use Rattle.rows.proofs.in_first.Reads as in-first-reads
 use Rattle.timed_visits.proofs.leased_row.Reads as leased-row-reads
 use Rattle.visits.proofs.new_grants_row.Reads as new-grants-row-reads
-use Rattle.timed_visits.proofs.refresh_row.Reads as refresh-row-reads
+use Rattle.refresh_visits.proofs.refresh_row.Reads as refresh-row-reads
 
 enum-known-pass : tie.Need-enum-known-pass
 enum-known-pass c = search needs

@@ -6,7 +6,7 @@ use Rattle.passes.proofs.visit_id.Tie as tie
 use Rattle.passes.proofs.visit_id.Reads as reads
 use Rattle.passes.proofs.visit_id.Lts as lts
 use Rattle.passes.proofs.pass_row.Reads as pass-row-reads
-use Rattle.visits.proofs.in_none.Reads as in-none-reads
+use Rattle.rows.proofs.in_none.Reads as in-none-reads
 
 in-none-requires : tie.Need-in-none-requires
 in-none-requires c κs = search needs

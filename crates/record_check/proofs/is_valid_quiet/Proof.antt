@@ -4,7 +4,7 @@ use Rattle.record_check.proofs.is_valid_quiet.Statement.{statement}
 use Rattle.record_check.proofs.is_valid_quiet.Tie as tie
 use Rattle.record_check.proofs.is_valid_quiet.Reads as reads
 use Rattle.record_check.proofs.is_valid_quiet.Lts as lts
-use Rattle.row_check.proofs.is_valid_deadline.Reads as is-valid-deadline-reads
+use Rattle.timer_check.proofs.is_valid_deadline.Reads as is-valid-deadline-reads
 
 enum-told : tie.Need-enum-told
 enum-told c = search needs

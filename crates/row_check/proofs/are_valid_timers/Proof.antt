@@ -4,9 +4,9 @@ use Rattle.row_check.proofs.are_valid_timers.Statement.{statement}
 use Rattle.row_check.proofs.are_valid_timers.Tie as tie
 use Rattle.row_check.proofs.are_valid_timers.Reads as reads
 use Rattle.row_check.proofs.are_valid_timers.Lts as lts
-use Rattle.row_check.proofs.is_valid_entry.Reads as is-valid-entry-reads
-use Rattle.row_check.proofs.is_valid_grant.Reads as is-valid-grant-reads
-use Rattle.row_check.proofs.is_valid_sent_guard.Reads as is-valid-sent-guard-reads
+use Rattle.timer_check.proofs.is_valid_entry.Reads as is-valid-entry-reads
+use Rattle.timer_check.proofs.is_valid_grant.Reads as is-valid-grant-reads
+use Rattle.timer_check.proofs.is_valid_sent_guard.Reads as is-valid-sent-guard-reads
 use Rattle.rows.proofs.both.Reads as both-reads
 
 is-valid-sent-guard-requires : tie.Need-is-valid-sent-guard-requires

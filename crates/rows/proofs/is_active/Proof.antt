@@ -4,7 +4,7 @@ use Rattle.rows.proofs.is_active.Statement.{statement}
 use Rattle.rows.proofs.is_active.Tie as tie
 use Rattle.rows.proofs.is_active.Reads as reads
 use Rattle.rows.proofs.is_active.Lts as lts
-use Rattle.timer.proofs.active.Reads as active-reads
+use Rattle.timer_readings.proofs.active.Reads as active-reads
 
 enum-told : tie.Need-enum-told
 enum-told c = search needs

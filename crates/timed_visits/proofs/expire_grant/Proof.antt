@@ -4,7 +4,7 @@ use Rattle.timed_visits.proofs.expire_grant.Statement.{statement}
 use Rattle.timed_visits.proofs.expire_grant.Tie as tie
 use Rattle.timed_visits.proofs.expire_grant.Reads as reads
 use Rattle.timed_visits.proofs.expire_grant.Lts as lts
-use Rattle.timer.proofs.expire.Reads as expire-reads
+use Rattle.timer_readings.proofs.expire.Reads as expire-reads
 
 enum-told : tie.Need-enum-told
 enum-told c = search needs

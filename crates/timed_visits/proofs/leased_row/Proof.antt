@@ -5,7 +5,7 @@ use Rattle.timed_visits.proofs.leased_row.Tie as tie
 use Rattle.timed_visits.proofs.leased_row.Reads as reads
 use Rattle.timed_visits.proofs.leased_row.Lts as lts
 use Rattle.rows.proofs.is_active.Reads as is-active-reads
-use Rattle.visits.proofs.in_first.Reads as in-first-reads
+use Rattle.rows.proofs.in_first.Reads as in-first-reads
 
 is-active-requires : tie.Need-is-active-requires
 is-active-requires c κs = search needs

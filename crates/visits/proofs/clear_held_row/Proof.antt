@@ -5,7 +5,7 @@ use Rattle.visits.proofs.clear_held_row.Tie as tie
 use Rattle.visits.proofs.clear_held_row.Reads as reads
 use Rattle.visits.proofs.clear_held_row.Lts as lts
 use Rattle.rows.proofs.with_held.Reads as with-held-reads
-use Rattle.visits.proofs.in_none.Reads as in-none-reads
+use Rattle.rows.proofs.in_none.Reads as in-none-reads
 
 with-held-requires : tie.Need-with-held-requires
 with-held-requires c κs = search needs

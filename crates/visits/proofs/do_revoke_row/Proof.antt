@@ -5,8 +5,8 @@ use Rattle.visits.proofs.do_revoke_row.Tie as tie
 use Rattle.visits.proofs.do_revoke_row.Reads as reads
 use Rattle.visits.proofs.do_revoke_row.Lts as lts
 use Rattle.rows.proofs.with_sent.Reads as with-sent-reads
-use Rattle.visits.proofs.in_first.Reads as in-first-reads
-use Rattle.visits.proofs.in_none.Reads as in-none-reads
+use Rattle.rows.proofs.in_first.Reads as in-first-reads
+use Rattle.rows.proofs.in_none.Reads as in-none-reads
 
 enum-told : tie.Need-enum-told
 enum-told c = search needs

@@ -5,7 +5,7 @@ use Rattle.visits.proofs.granted_row.Tie as tie
 use Rattle.visits.proofs.granted_row.Reads as reads
 use Rattle.visits.proofs.granted_row.Lts as lts
 use Rattle.rows.proofs.is_granted.Reads as is-granted-reads
-use Rattle.visits.proofs.in_first.Reads as in-first-reads
+use Rattle.rows.proofs.in_first.Reads as in-first-reads
 
 is-granted-requires : tie.Need-is-granted-requires
 is-granted-requires c κs = search needs

@@ -6,7 +6,7 @@ use Rattle.visits.proofs.higher_number_row.Reads as reads
 use Rattle.visits.proofs.higher_number_row.Lts as lts
 use Rattle.rows.proofs.with_held.Reads as with-held-reads
 use Rattle.rows.proofs.with_sent.Reads as with-sent-reads
-use Rattle.visits.proofs.in_none.Reads as in-none-reads
+use Rattle.rows.proofs.in_none.Reads as in-none-reads
 
 with-sent-requires : tie.Need-with-sent-requires
 with-sent-requires c κs = search needs

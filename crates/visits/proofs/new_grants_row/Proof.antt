@@ -7,8 +7,8 @@ use Rattle.visits.proofs.new_grants_row.Lts as lts
 use Rattle.rows.proofs.both.Reads as both-reads
 use Rattle.rows.proofs.is_granted.Reads as is-granted-reads
 use Rattle.rows.proofs.with_sent.Reads as with-sent-reads
-use Rattle.visits.proofs.in_first.Reads as in-first-reads
-use Rattle.visits.proofs.in_none.Reads as in-none-reads
+use Rattle.rows.proofs.in_first.Reads as in-first-reads
+use Rattle.rows.proofs.in_none.Reads as in-none-reads
 
 is-granted-requires : tie.Need-is-granted-requires
 is-granted-requires c κs = search needs
