@@ -1,5 +1,5 @@
-// The calls of module 1, but for those over a slice of ids, which stand in bitmap_lists: on any set and any argument each answers as
-// bitmap's specs/Operations says.
+// The calls of module 1 on one set and an id of it; bitmap_sets has those about sets as a whole, bitmap_lists
+// those over a slice of ids. On any set and any argument each answers as bitmap's specs/Operations says.
 use bitmap::BAD_ID;
 use bitmap::BAD_SIZE;
 use bitmap::Bitmap;

@@ -1,5 +1,5 @@
-// The calls of module 1 about a set as a whole: flip, union, superset, clear, and a range of ids. No
-// requires: a refusal is in the answer.
+// The calls of module 1 about sets as a whole: flip, union, superset, clear, and the set of a range of ids. On
+// any set and any argument each answers as bitmap's specs/Operations says.
 use bitmap::BAD_ID;
 use bitmap::BAD_SIZE;
 use bitmap::Bitmap;

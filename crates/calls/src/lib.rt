@@ -1,7 +1,7 @@
 // The outer calls on a record that is not refused, by value. Every contract says that the result equals
 // a definition of lease/specs/Calls.
 use drift::Clock;
-use drift::quotient;
+use drift_floats::quotient;
 use lease::AdvanceAnswer;
 use lease::AdvanceOutcome;
 use lease::DriftSetting;

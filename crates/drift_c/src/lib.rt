@@ -33,7 +33,7 @@ fn flattened(r: Drifted) -> DriftedC
 pub extern "C" fn drift_rate(d: i8) -> u64
     ensures { λ r. ⌜ r ≡ rateOf d ⌝ }
 {
-    drift::rate(d)
+    drift_floats::rate(d)
 }
 
 // The quotient of a drift setting.
@@ -41,7 +41,7 @@ pub extern "C" fn drift_rate(d: i8) -> u64
 pub extern "C" fn drift_quotient(d: i8) -> f64
     ensures { λ r. ⌜ r ≡ quotientOf d ⌝ }
 {
-    drift::quotient(d)
+    drift_floats::quotient(d)
 }
 
 // Whether some drift setting gives the quotient q.
@@ -49,7 +49,7 @@ pub extern "C" fn drift_quotient(d: i8) -> f64
 pub extern "C" fn drift_is_quotient(q: f64) -> bool
     ensures { λ r. ⌜ r ≡ isQuotient q ⌝ }
 {
-    drift::is_quotient(q)
+    drift_clocks::is_quotient(q)
 }
 
 // p seconds in ns.
@@ -57,7 +57,7 @@ pub extern "C" fn drift_is_quotient(q: f64) -> bool
 pub extern "C" fn drift_in_ns(p: f64) -> u64
     ensures { λ r. ⌜ r ≡ nsOf p ⌝ }
 {
-    drift::in_ns(p)
+    drift_floats::in_ns(p)
 }
 
 // A duration under the true clock.
@@ -65,7 +65,7 @@ pub extern "C" fn drift_in_ns(p: f64) -> u64
 pub extern "C" fn drift_true(ns: u64) -> DriftedC
     ensures { λ r. ⌜ r ≡ flat (driftedOn True ns) ⌝ }
 {
-    flattened(drift::clock_drifted(Clock::True, ns))
+    flattened(drift_clocks::clock_drifted(Clock::True, ns))
 }
 
 // A duration under a clock that drifts by the quotient q.
@@ -73,5 +73,5 @@ pub extern "C" fn drift_true(ns: u64) -> DriftedC
 pub extern "C" fn drift_by(q: f64, ns: u64) -> DriftedC
     ensures { λ r. ⌜ r ≡ flat (driftedOn (Drifting q) ns) ⌝ }
 {
-    flattened(drift::clock_drifted(Clock::Drifting(q), ns))
+    flattened(drift_clocks::clock_drifted(Clock::Drifting(q), ns))
 }

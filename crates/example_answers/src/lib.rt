@@ -16,11 +16,12 @@ use lease::LeaseMsg;
 use lease::Line;
 use lease::Lines;
 use lease::SetOutcome;
+use std::num::wrapping_add_u64;
 use timer::Timer;
 
 // A number in which the order of a and b matters.
 pub fn mix(a: u64, b: u64) -> u64 {
-    a % 4_000_000_000_000 * 1_000_003 + b % 4_000_000_000_000_000_000
+    wrapping_add_u64(a % 18_000_000_000_000 * 1_000_003, b)
 }
 
 fn letter(a: u64, b: u8) -> u64 {
@@ -43,7 +44,7 @@ fn with_set(a: u64, b: Bitmap) -> u64 {
     mix(mix(a, b.size as u64), b.bits)
 }
 
-fn set(b: Bitmap) -> u64 {
+pub fn set(b: Bitmap) -> u64 {
     with_set(letter(0, b'S'), b)
 }
 

@@ -8,6 +8,7 @@ mod notices;
 use example_answers::mix;
 pub use notices::notice;
 pub use notices::peer_set;
+use std::num::wrapping_add_u64;
 
 // More than any line has.
 const TURNS: u64 = 1000;
@@ -66,7 +67,8 @@ fn ending(c: u8) -> u8 {
 // The word with one more byte: a digit, or a letter by itself.
 fn lengthened(value: u64, c: u8) -> u64 {
     if b'0' <= c && c <= b'9' {
-        return value % 1_000_000_000_000_000_000 * 10 + (c - b'0') as u64;
+        let tens = value % 1_844_674_407_370_955_162 * 10;
+        return wrapping_add_u64(tens, (c - b'0') as u64);
     }
     c as u64
 }
@@ -117,7 +119,7 @@ fn next_word(so_far: Part) -> Part {
 }
 
 // The answer of the line, all its words in one number.
-pub fn expected() -> u64 {
+fn expected() -> u64 {
     let mut w = Part { value: 0, end: 0 };
     let mut turns: u64 = TURNS;
     while turns > 0 && w.end != b'\n' {
@@ -125,4 +127,30 @@ pub fn expected() -> u64 {
         turns -= 1;
     }
     w.value
+}
+
+fn text(t: &[u8]) {
+    let _written = io::write_all(1, t);
+}
+
+fn number(n: u64) {
+    let _written = io::print_decimal(1, n);
+}
+
+// Writes whether the answer is the line's; 1 if it is.
+pub fn judge(got: u64) -> u64 {
+    if expected() == got {
+        text(b": ok\n");
+        return 1;
+    }
+    text(b": WRONG\n");
+    0
+}
+
+// The last line of the output.
+pub fn write_counts(right: u64, count: u64) {
+    number(right);
+    text(b" of ");
+    number(count);
+    text(b" lines ok\n");
 }

@@ -1,4 +1,5 @@
 pub mod ManagerKit
+pub mod Local
 pub mod AddNoticeKit
 pub mod Thin2
 pub mod Lending2

@@ -2,7 +2,7 @@
 // Every contract says that the result equals a definition of lease/specs/RecordCheck.
 use bitmap::CAPACITY;
 use drift::Clock;
-use drift::is_quotient;
+use drift_clocks::is_quotient;
 use lease::Manager;
 use lease::Peer;
 use lease::QuietTimer;

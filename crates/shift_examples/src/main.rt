@@ -11,10 +11,11 @@ use example_calls::start;
 use example_questions::ask;
 use example_questions::is_question;
 use example_script::copy_saying;
-use example_script::expected;
+use example_script::judge;
 use example_script::letter;
 use example_script::notice;
 use example_script::word;
+use example_script::write_counts;
 use lease::LeaseNum;
 use lease::Manager;
 use std::num::wrapping_add_u64;
@@ -22,14 +23,6 @@ use timer::Reading;
 
 // More lines than the file has.
 const TURNS: u64 = 1000;
-
-fn text(t: &[u8]) {
-    let _written = io::write_all(1, t);
-}
-
-fn number(n: u64) {
-    let _written = io::print_decimal(1, n);
-}
 
 fn add_notice_lending(m: Manager) -> Done {
     let num = LeaseNum(word());
@@ -58,16 +51,6 @@ fn call(m: Manager) -> Done {
     }
 }
 
-// Writes whether the answer is the expected one; 1 if it is.
-fn judge(got: u64) -> u64 {
-    if expected() == got {
-        text(b": ok\n");
-        return 1;
-    }
-    text(b": WRONG\n");
-    0
-}
-
 fn main() {
     let mut run = start();
     let mut right: u64 = 0;
@@ -79,8 +62,5 @@ fn main() {
         count = wrapping_add_u64(count, 1);
         turns -= 1;
     }
-    number(right);
-    text(b" of ");
-    number(count);
-    text(b" lines ok\n");
+    write_counts(right, count);
 }

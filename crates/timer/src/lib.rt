@@ -2,7 +2,7 @@
 // what time it is. Every contract says that the result equals a definition of specs/Timers.antt.
 // Only the functions that add to a reading have a `requires`: that the sum fits 64 bits.
 use drift::Clock;
-use drift::clock_drifted;
+use drift_clocks::clock_drifted;
 ghost use mathlib.Core.Path.{_≡_};
 ghost use Prim.Native.Nat.{_≤_, max};
 ghost use Rattle.drift.specs.Drift.{longest};

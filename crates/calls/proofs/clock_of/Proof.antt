@@ -6,7 +6,7 @@ use Rattle.calls.proofs.clock_of.Statement.{statement}
 use Rattle.calls.proofs.clock_of.Tie as tie
 use Rattle.calls.proofs.clock_of.Reads as reads
 use Rattle.calls.proofs.clock_of.Lts as lts
-use Rattle.drift.proofs.quotient.Reads as quotient-reads
+use Rattle.drift_floats.proofs.quotient.Reads as quotient-reads
 
 enum-told : tie.Need-enum-told
 enum-told c = search needs

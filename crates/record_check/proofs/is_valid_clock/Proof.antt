@@ -4,7 +4,7 @@ use Rattle.record_check.proofs.is_valid_clock.Statement.{statement}
 use Rattle.record_check.proofs.is_valid_clock.Tie as tie
 use Rattle.record_check.proofs.is_valid_clock.Reads as reads
 use Rattle.record_check.proofs.is_valid_clock.Lts as lts
-use Rattle.drift.proofs.is_quotient.Reads as is-quotient-reads
+use Rattle.drift_clocks.proofs.is_quotient.Reads as is-quotient-reads
 
 enum-told : tie.Need-enum-told
 enum-told c = search needs

@@ -1,23 +1,21 @@
 -- `shift_examples::main` runs without fault, and ends: the turns that are left fall. Assumes nothing.
 use native.Mathlib.Omega.{arith}
-use borrow.Author.Needs.{needs}
 use Rattle.shift_examples.proofs.main.Statement.{statement}
 use Rattle.shift_examples.proofs.main.Tie as tie
 use Rattle.shift_examples.proofs.main.Reads as reads
 use Rattle.shift_examples.proofs.main.Lts as lts
 use Rattle.example_calls.proofs.start.Reads as start-reads
 use Rattle.example_script.proofs.copy_saying.Reads as copy-saying-reads
+use Rattle.example_script.proofs.judge.Reads as judge-reads
+use Rattle.example_script.proofs.write_counts.Reads as write-counts-reads
 use Rattle.shift_examples.proofs.call.Reads as call-reads
-use Rattle.shift_examples.proofs.judge.Reads as judge-reads
-use Rattle.shift_examples.proofs.number.Reads as number-reads
-use Rattle.shift_examples.proofs.text.Reads as text-reads
 use Rattle.std.proofs.num.wrapping_add_u64.Reads as wrapping-add-u64-reads
 
 abbrev Inv-loop : tie.InvT-loop
-Inv-loop run₀ right₀ count₀ turns₀ t5 t6 run right count turns = Unit {0}
+Inv-loop run₀ right₀ count₀ turns₀ run right count turns = Unit {0}
 
 abbrev μ-loop : tie.MeasureT-loop
-μ-loop run₀ right₀ count₀ turns₀ t5 t6 run right count turns = turns
+μ-loop run₀ right₀ count₀ turns₀ run right count turns = turns
 
 start-requires : tie.Need-start-requires Inv-loop μ-loop
 start-requires c κs = tt
@@ -49,23 +47,8 @@ loop-less c = omega arith
 loop-again : tie.Need-loop-again Inv-loop μ-loop
 loop-again c = tt
 
-number-requires : tie.Need-number-requires Inv-loop μ-loop
-number-requires c κs = tt
-
-slice-aggregate-text : tie.Need-slice-aggregate-text Inv-loop μ-loop
-slice-aggregate-text c = search needs
-
-text-requires : tie.Need-text-requires Inv-loop μ-loop
-text-requires c κs = tt
-
-number-requires-2 : tie.Need-number-requires-2 Inv-loop μ-loop
-number-requires-2 c κs = tt
-
-slice-aggregate-text-2 : tie.Need-slice-aggregate-text-2 Inv-loop μ-loop
-slice-aggregate-text-2 c = search needs
-
-text-requires-2 : tie.Need-text-requires-2 Inv-loop μ-loop
-text-requires-2 c κs = tt
+write-counts-requires : tie.Need-write-counts-requires Inv-loop μ-loop
+write-counts-requires c κs = tt
 
 returns : tie.Need-returns Inv-loop μ-loop
 returns c = tt
@@ -86,10 +69,5 @@ main-spec =
     sub-turns
     loop-less
     loop-again
-    number-requires
-    slice-aggregate-text
-    text-requires
-    number-requires-2
-    slice-aggregate-text-2
-    text-requires-2
+    write-counts-requires
     returns)

@@ -1,0 +1,68 @@
+-- `bitmap_examples::main` runs without fault, and ends: the turns that are left fall. Assumes nothing.
+use native.Mathlib.Omega.{arith}
+use Rattle.bitmap_examples.proofs.main.Statement.{statement}
+use Rattle.bitmap_examples.proofs.main.Tie as tie
+use Rattle.bitmap_examples.proofs.main.Reads as reads
+use Rattle.bitmap_examples.proofs.main.Lts as lts
+use Rattle.bitmap_examples.proofs.call.Reads as call-reads
+use Rattle.example_script.proofs.copy_saying.Reads as copy-saying-reads
+use Rattle.example_script.proofs.judge.Reads as judge-reads
+use Rattle.example_script.proofs.write_counts.Reads as write-counts-reads
+use Rattle.std.proofs.num.wrapping_add_u64.Reads as wrapping-add-u64-reads
+
+abbrev Inv-loop : tie.InvT-loop
+Inv-loop right₀ count₀ turns₀ right count turns = Unit {0}
+
+abbrev μ-loop : tie.MeasureT-loop
+μ-loop right₀ count₀ turns₀ right count turns = turns
+
+loop-holds : tie.Need-loop-holds Inv-loop μ-loop
+loop-holds c = tt
+
+copy-saying-requires : tie.Need-copy-saying-requires Inv-loop μ-loop
+copy-saying-requires c κs = tt
+
+call-requires : tie.Need-call-requires Inv-loop μ-loop
+call-requires c κs = tt
+
+judge-requires : tie.Need-judge-requires Inv-loop μ-loop
+judge-requires c κs = tt
+
+wrapping-add-u64-requires : tie.Need-wrapping-add-u64-requires Inv-loop μ-loop
+wrapping-add-u64-requires c κs = tt
+
+wrapping-add-u64-requires-2 : tie.Need-wrapping-add-u64-requires-2 Inv-loop μ-loop
+wrapping-add-u64-requires-2 c κs = tt
+
+sub-turns : tie.Need-sub-turns Inv-loop μ-loop
+sub-turns c = omega arith
+
+loop-less : tie.Need-loop-less Inv-loop μ-loop
+loop-less c = omega arith
+
+loop-again : tie.Need-loop-again Inv-loop μ-loop
+loop-again c = tt
+
+write-counts-requires : tie.Need-write-counts-requires Inv-loop μ-loop
+write-counts-requires c κs = tt
+
+returns : tie.Need-returns Inv-loop μ-loop
+returns c = tt
+
+pub main-spec : {M : Type 1} → statement M
+main-spec =
+    tie.close
+    (tie.spec
+    Inv-loop
+    μ-loop
+    loop-holds
+    copy-saying-requires
+    call-requires
+    judge-requires
+    wrapping-add-u64-requires
+    wrapping-add-u64-requires-2
+    sub-turns
+    loop-less
+    loop-again
+    write-counts-requires
+    returns)
