@@ -34,10 +34,10 @@ use Rattle.clock_calls.proofs.advance.Reads as advance
 use Rattle.outer_calls.proofs.assume_unknown_grants.Reads as assume-unknown-grants
 use Rattle.outer_calls.proofs.attempt_refresh.Reads as attempt-refresh
 use Rattle.clock_calls.proofs.set_drift.Reads as set-drift
-use Rattle.lent.proofs.add_notice_lent as add-notice-lent
-use Rattle.lent.proofs.advance_lent as advance-lent
-use Rattle.lent.proofs.add_notice_lending.Reads as add-notice-lending
-use Rattle.lent.proofs.advance_lending.Reads as advance-lending
+use Rattle.lent_notice.proofs.add_notice_lent as add-notice-lent
+use Rattle.lent_advance.proofs.advance_lent as advance-lent
+use Rattle.lent_notice.proofs.add_notice_lending.Reads as add-notice-lending
+use Rattle.lent_advance.proofs.advance_lending.Reads as advance-lending
 use Rattle.questions.proofs.grant_set.Reads as grant-set
 use Rattle.questions.proofs.lease_set.Reads as lease-set
 use Rattle.questions.proofs.lease_cnt.Reads as lease-cnt

@@ -26,11 +26,11 @@ const TURNS: u64 = 1000;
 
 fn add_notice_lending(m: Manager) -> Done {
     let num = LeaseNum(word());
-    noticed(lent::add_notice_lending(m, num, notice()))
+    noticed(lent_notice::add_notice_lending(m, num, notice()))
 }
 
 fn advance_lending(m: Manager) -> Done {
-    advanced(lent::advance_lending(m, Reading(word())))
+    advanced(lent_advance::advance_lending(m, Reading(word())))
 }
 
 fn asked(m: Manager, letter: u8) -> Done {

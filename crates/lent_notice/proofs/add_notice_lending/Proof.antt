@@ -1,4 +1,4 @@
--- `lent::add_notice_lending` meets its contract: a walk of its MIR, by hand (`Lending2.antt`). The record is copied into a local, which is lent to `add_notice_lent` and taken back at the record that `add_notice_lent` ensures, and the answer is put together.
+-- `lent_notice::add_notice_lending` meets its contract: a walk of its MIR, by hand (`Lending2.antt`). The record is copied into a local, which is lent to `add_notice_lent` and taken back at the record that `add_notice_lent` ensures, and the answer is put together.
 -- All that the proof knows of `add_notice_lent` is that it meets its contract. Nothing here depends on the record's fields.
 -- Assumes nothing.
 use mathlib.Core.Path.{_≡_, refl, ap}
@@ -52,14 +52,14 @@ use Rattle.lease.proofs.LeaseNum as P1
 use Rattle.lease.proofs.LeaseNum.Laws as P1′
 use Rattle.lease.proofs.LeaseNotice as P2
 use Rattle.lease.proofs.LeaseNotice.Laws as P2′
-use Rattle.lent.proofs.add_notice_lent as lent
-use Rattle.lent.proofs.add_notice_lent.Symbol as lent-def
-use Rattle.lent.proofs.add_notice_lent.Symbol.{name as #lent·add-notice-lent}
-use Rattle.lent.proofs.add_notice_lent.Met as lent-thm
-use Rattle.lent.proofs.add_notice_lending.Key.{name as #lent·add-notice-lending}
-use Rattle.lent.proofs.add_notice_lending as f
-use Rattle.lent.proofs.add_notice_lending.Statement as stated
-use Rattle.lent.proofs.add_notice_lending.Code as code
+use Rattle.lent_notice.proofs.add_notice_lent as lent
+use Rattle.lent_notice.proofs.add_notice_lent.Symbol as lent-def
+use Rattle.lent_notice.proofs.add_notice_lent.Symbol.{name as #lent·add-notice-lent}
+use Rattle.lent_notice.proofs.add_notice_lent.Met as lent-thm
+use Rattle.lent_notice.proofs.add_notice_lending.Key.{name as #lent·add-notice-lending}
+use Rattle.lent_notice.proofs.add_notice_lending as f
+use Rattle.lent_notice.proofs.add_notice_lending.Statement as stated
+use Rattle.lent_notice.proofs.add_notice_lending.Code as code
 
 abbrev stayed : Stays (f.ended .signature .params) (f.ended .kept)
 stayed = (stay-none (λ _. T.the-row) yes, (stay-none (λ _. P1.the-row) yes, (stay-none (λ _. P2.the-row) yes, tt)))
@@ -148,4 +148,4 @@ add-notice-lending-spec 𝓤 H 𝓜 𝓖 𝓡 =
     entered 𝓤 H (tripleOf 𝓤 H (𝓖 .A) f.signature (f.spec 𝓤 H (𝓖 .A) (𝓜 .mem) (𝓡 .run)))
     (tables 𝓤 H 𝓜 𝓡 code.env .C) (tables 𝓤 H 𝓜 𝓡 code.env .Λ) #lent·add-notice-lending code.function (code.unfolded 𝓤 H 𝓜 𝓡)
     (meets 𝓤 H (𝓖 .A) (givenOf 𝓤 H 𝓜 𝓖) (𝓜 .mem) (𝓡 .run) (tablesOf 𝓤 H 𝓜 (tables 𝓤 H 𝓜 𝓡 code.env))
-    (cited 𝓤 H (Lent 𝓤 H (𝓖 .A) (𝓜 .mem) (𝓡 .run)) 𝓜 𝓡 code.env #lent·add-notice-lent lent-def.routine code.calls-lent·add-notice-lent (lent-thm.met 𝓤 H 𝓜 𝓖 𝓡)))
+    (cited 𝓤 H (Lent 𝓤 H (𝓖 .A) (𝓜 .mem) (𝓡 .run)) 𝓜 𝓡 code.env #lent·add-notice-lent lent-def.routine code.calls-lent-notice·add-notice-lent (lent-thm.met 𝓤 H 𝓜 𝓖 𝓡)))

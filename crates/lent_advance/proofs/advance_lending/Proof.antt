@@ -1,4 +1,4 @@
--- `lent::advance_lending` meets its contract: a walk of its MIR, by hand (`Lending1.antt`). The record is copied into a local, which is lent to `advance_lent` and taken back at the record that `advance_lent` ensures, and the answer is put together.
+-- `lent_advance::advance_lending` meets its contract: a walk of its MIR, by hand (`Lending1.antt`). The record is copied into a local, which is lent to `advance_lent` and taken back at the record that `advance_lent` ensures, and the answer is put together.
 -- All that the proof knows of `advance_lent` is that it meets its contract. Nothing here depends on the record's fields.
 -- Assumes nothing.
 use mathlib.Core.Path.{_≡_, refl, ap}
@@ -49,14 +49,14 @@ use Rattle.lease.proofs.AdvanceOutcome as O
 use Rattle.lease.proofs.AdvanceOutcome.Laws as O′
 use Rattle.timer.proofs.Reading as P1
 use Rattle.timer.proofs.Reading.Laws as P1′
-use Rattle.lent.proofs.advance_lent as lent
-use Rattle.lent.proofs.advance_lent.Symbol as lent-def
-use Rattle.lent.proofs.advance_lent.Symbol.{name as #lent·advance-lent}
-use Rattle.lent.proofs.advance_lent.Met as lent-thm
-use Rattle.lent.proofs.advance_lending.Key.{name as #lent·advance-lending}
-use Rattle.lent.proofs.advance_lending as f
-use Rattle.lent.proofs.advance_lending.Statement as stated
-use Rattle.lent.proofs.advance_lending.Code as code
+use Rattle.lent_advance.proofs.advance_lent as lent
+use Rattle.lent_advance.proofs.advance_lent.Symbol as lent-def
+use Rattle.lent_advance.proofs.advance_lent.Symbol.{name as #lent·advance-lent}
+use Rattle.lent_advance.proofs.advance_lent.Met as lent-thm
+use Rattle.lent_advance.proofs.advance_lending.Key.{name as #lent·advance-lending}
+use Rattle.lent_advance.proofs.advance_lending as f
+use Rattle.lent_advance.proofs.advance_lending.Statement as stated
+use Rattle.lent_advance.proofs.advance_lending.Code as code
 
 abbrev stayed : Stays (f.ended .signature .params) (f.ended .kept)
 stayed = (stay-none (λ _. T.the-row) yes, (stay-none (λ _. P1.the-row) yes, tt))
@@ -145,4 +145,4 @@ advance-lending-spec 𝓤 H 𝓜 𝓖 𝓡 =
     entered 𝓤 H (tripleOf 𝓤 H (𝓖 .A) f.signature (f.spec 𝓤 H (𝓖 .A) (𝓜 .mem) (𝓡 .run)))
     (tables 𝓤 H 𝓜 𝓡 code.env .C) (tables 𝓤 H 𝓜 𝓡 code.env .Λ) #lent·advance-lending code.function (code.unfolded 𝓤 H 𝓜 𝓡)
     (meets 𝓤 H (𝓖 .A) (givenOf 𝓤 H 𝓜 𝓖) (𝓜 .mem) (𝓡 .run) (tablesOf 𝓤 H 𝓜 (tables 𝓤 H 𝓜 𝓡 code.env))
-    (cited 𝓤 H (Lent 𝓤 H (𝓖 .A) (𝓜 .mem) (𝓡 .run)) 𝓜 𝓡 code.env #lent·advance-lent lent-def.routine code.calls-lent·advance-lent (lent-thm.met 𝓤 H 𝓜 𝓖 𝓡)))
+    (cited 𝓤 H (Lent 𝓤 H (𝓖 .A) (𝓜 .mem) (𝓡 .run)) 𝓜 𝓡 code.env #lent·advance-lent lent-def.routine code.calls-lent-advance·advance-lent (lent-thm.met 𝓤 H 𝓜 𝓖 𝓡)))

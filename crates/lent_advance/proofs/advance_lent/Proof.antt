@@ -1,4 +1,4 @@
--- `lent::advance_lent` meets its contract: a walk of its MIR, by hand (`Thin1.antt`). The borrow is opened, the record is copied into a local and passed to `advance`, the record of its answer is stored where the borrow points, and the borrow is closed at it.
+-- `lent_advance::advance_lent` meets its contract: a walk of its MIR, by hand (`Thin1.antt`). The borrow is opened, the record is copied into a local and passed to `advance`, the record of its answer is stored where the borrow points, and the borrow is closed at it.
 -- All that the proof knows of `advance` is that it meets its contract. Nothing here depends on the record's fields.
 -- Assumes nothing.
 use mathlib.Core.Path.{_≡_, refl, ap}
@@ -53,10 +53,10 @@ use Rattle.clock_calls.proofs.advance as core
 use Rattle.clock_calls.proofs.advance.Symbol as core-def
 use Rattle.clock_calls.proofs.advance.Symbol.{name as #clock_calls·advance}
 use Rattle.clock_calls.proofs.advance.Met as core-thm
-use Rattle.lent.proofs.advance_lent.Key.{name as #lent·advance-lent}
-use Rattle.lent.proofs.advance_lent as f
-use Rattle.lent.proofs.advance_lent.Statement as stated
-use Rattle.lent.proofs.advance_lent.Code as code
+use Rattle.lent_advance.proofs.advance_lent.Key.{name as #lent·advance-lent}
+use Rattle.lent_advance.proofs.advance_lent as f
+use Rattle.lent_advance.proofs.advance_lent.Statement as stated
+use Rattle.lent_advance.proofs.advance_lent.Code as code
 
 abbrev stayed : Stays (f.ended .signature .params) (f.ended .kept)
 stayed = (stay-ref (0 ∷ []) tt (plain (λ _. T.the-row)), (stay-none (λ _. P1.the-row) yes, tt))

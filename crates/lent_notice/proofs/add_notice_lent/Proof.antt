@@ -1,4 +1,4 @@
--- `lent::add_notice_lent` meets its contract: a walk of its MIR, by hand (`Thin2.antt`). The borrow is opened, the record is copied into a local and passed to `add_notice`, the record of its answer is stored where the borrow points, and the borrow is closed at it.
+-- `lent_notice::add_notice_lent` meets its contract: a walk of its MIR, by hand (`Thin2.antt`). The borrow is opened, the record is copied into a local and passed to `add_notice`, the record of its answer is stored where the borrow points, and the borrow is closed at it.
 -- All that the proof knows of `add_notice` is that it meets its contract. Nothing here depends on the record's fields.
 -- Assumes nothing.
 use mathlib.Core.Path.{_≡_, refl, ap}
@@ -56,10 +56,10 @@ use Rattle.leaseman.proofs.add_notice as core
 use Rattle.leaseman.proofs.add_notice.Symbol as core-def
 use Rattle.leaseman.proofs.add_notice.Symbol.{name as #leaseman·add-notice}
 use Rattle.leaseman.proofs.add_notice.Met as core-thm
-use Rattle.lent.proofs.add_notice_lent.Key.{name as #lent·add-notice-lent}
-use Rattle.lent.proofs.add_notice_lent as f
-use Rattle.lent.proofs.add_notice_lent.Statement as stated
-use Rattle.lent.proofs.add_notice_lent.Code as code
+use Rattle.lent_notice.proofs.add_notice_lent.Key.{name as #lent·add-notice-lent}
+use Rattle.lent_notice.proofs.add_notice_lent as f
+use Rattle.lent_notice.proofs.add_notice_lent.Statement as stated
+use Rattle.lent_notice.proofs.add_notice_lent.Code as code
 
 abbrev stayed : Stays (f.ended .signature .params) (f.ended .kept)
 stayed = (stay-ref (0 ∷ []) tt (plain (λ _. T.the-row)), (stay-none (λ _. P1.the-row) yes, (stay-none (λ _. P2.the-row) yes, tt)))
