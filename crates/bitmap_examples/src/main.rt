@@ -13,12 +13,12 @@ use example_answers::flag;
 use example_answers::mix;
 use example_answers::refused;
 use example_answers::set;
+use example_script::Counts;
 use example_script::copy_saying;
 use example_script::judge;
 use example_script::letter;
 use example_script::word;
 use example_script::write_counts;
-use std::num::wrapping_add_u64;
 
 // More lines than the file has.
 const TURNS: u64 = 1000;
@@ -143,14 +143,17 @@ fn call() -> u64 {
     }
 }
 
+// A line: its call, and whether the answer is right.
+fn run_line(so_far: Counts) -> Counts {
+    judge(call(), so_far)
+}
+
 fn main() {
-    let mut right: u64 = 0;
-    let mut count: u64 = 0;
+    let mut counts = Counts { right: 0, count: 0 };
     let mut turns: u64 = TURNS;
     while turns > 0 && copy_saying() {
-        right = wrapping_add_u64(right, judge(call()));
-        count = wrapping_add_u64(count, 1);
+        counts = run_line(counts);
         turns -= 1;
     }
-    write_counts(right, count);
+    write_counts(counts);
 }

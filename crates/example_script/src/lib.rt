@@ -13,6 +13,12 @@ use std::num::wrapping_add_u64;
 // More than any line has.
 const TURNS: u64 = 1000;
 
+// How many lines are run, and how many of them are ok.
+pub struct Counts {
+    pub right: u64,
+    pub count: u64,
+}
+
 // A word or an answer so far, as a number, and what ended it, or 0.
 struct Part {
     value: u64,
@@ -137,20 +143,27 @@ fn number(n: u64) {
     let _written = io::print_decimal(1, n);
 }
 
-// Writes whether the answer is the line's; 1 if it is.
-pub fn judge(got: u64) -> u64 {
+// Writes whether the answer is the line's, and counts it.
+pub fn judge(got: u64, so_far: Counts) -> Counts {
+    let count = wrapping_add_u64(so_far.count, 1);
     if expected() == got {
         text(b": ok\n");
-        return 1;
+        return Counts {
+            right: wrapping_add_u64(so_far.right, 1),
+            count,
+        };
     }
     text(b": WRONG\n");
-    0
+    Counts {
+        right: so_far.right,
+        count,
+    }
 }
 
 // The last line of the output.
-pub fn write_counts(right: u64, count: u64) {
-    number(right);
+pub fn write_counts(c: Counts) {
+    number(c.right);
     text(b" of ");
-    number(count);
+    number(c.count);
     text(b" lines ok\n");
 }

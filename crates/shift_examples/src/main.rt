@@ -10,6 +10,7 @@ use example_calls::perform;
 use example_calls::start;
 use example_questions::ask;
 use example_questions::is_question;
+use example_script::Counts;
 use example_script::copy_saying;
 use example_script::judge;
 use example_script::letter;
@@ -18,11 +19,16 @@ use example_script::word;
 use example_script::write_counts;
 use lease::LeaseNum;
 use lease::Manager;
-use std::num::wrapping_add_u64;
 use timer::Reading;
 
 // More lines than the file has.
 const TURNS: u64 = 1000;
+
+// The record to go on with, and the lines so far.
+struct Run {
+    manager: Manager,
+    counts: Counts,
+}
 
 fn add_notice_lending(m: Manager) -> Done {
     let num = LeaseNum(word());
@@ -51,16 +57,26 @@ fn call(m: Manager) -> Done {
     }
 }
 
+// A line: its call on the record of the line before, and whether the answer is right.
+fn run_line(before: Run) -> Run {
+    let record = before.manager;
+    let so_far = before.counts;
+    let done = call(record);
+    let manager = done.manager;
+    let counts = judge(done.answer, so_far);
+    Run { manager, counts }
+}
+
 fn main() {
-    let mut run = start();
-    let mut right: u64 = 0;
-    let mut count: u64 = 0;
+    let first = start();
+    let manager = first.manager;
+    let counts = Counts { right: 0, count: 0 };
+    let mut run = Run { manager, counts };
     let mut turns: u64 = TURNS;
     while turns > 0 && copy_saying() {
-        run = call(run.manager);
-        right = wrapping_add_u64(right, judge(run.answer));
-        count = wrapping_add_u64(count, 1);
+        run = run_line(run);
         turns -= 1;
     }
-    write_counts(right, count);
+    let all = run.counts;
+    write_counts(all);
 }

@@ -4,17 +4,15 @@ use Rattle.bitmap_examples.proofs.main.Statement.{statement}
 use Rattle.bitmap_examples.proofs.main.Tie as tie
 use Rattle.bitmap_examples.proofs.main.Reads as reads
 use Rattle.bitmap_examples.proofs.main.Lts as lts
-use Rattle.bitmap_examples.proofs.call.Reads as call-reads
+use Rattle.bitmap_examples.proofs.run_line.Reads as run-line-reads
 use Rattle.example_script.proofs.copy_saying.Reads as copy-saying-reads
-use Rattle.example_script.proofs.judge.Reads as judge-reads
 use Rattle.example_script.proofs.write_counts.Reads as write-counts-reads
-use Rattle.std.proofs.num.wrapping_add_u64.Reads as wrapping-add-u64-reads
 
 abbrev Inv-loop : tie.InvT-loop
-Inv-loop right₀ count₀ turns₀ right count turns = Unit {0}
+Inv-loop counts₀ turns₀ counts turns = Unit {0}
 
 abbrev μ-loop : tie.MeasureT-loop
-μ-loop right₀ count₀ turns₀ right count turns = turns
+μ-loop counts₀ turns₀ counts turns = turns
 
 loop-holds : tie.Need-loop-holds Inv-loop μ-loop
 loop-holds c = tt
@@ -22,17 +20,8 @@ loop-holds c = tt
 copy-saying-requires : tie.Need-copy-saying-requires Inv-loop μ-loop
 copy-saying-requires c κs = tt
 
-call-requires : tie.Need-call-requires Inv-loop μ-loop
-call-requires c κs = tt
-
-judge-requires : tie.Need-judge-requires Inv-loop μ-loop
-judge-requires c κs = tt
-
-wrapping-add-u64-requires : tie.Need-wrapping-add-u64-requires Inv-loop μ-loop
-wrapping-add-u64-requires c κs = tt
-
-wrapping-add-u64-requires-2 : tie.Need-wrapping-add-u64-requires-2 Inv-loop μ-loop
-wrapping-add-u64-requires-2 c κs = tt
+run-line-requires : tie.Need-run-line-requires Inv-loop μ-loop
+run-line-requires c κs = tt
 
 sub-turns : tie.Need-sub-turns Inv-loop μ-loop
 sub-turns c = omega arith
@@ -57,10 +46,7 @@ main-spec =
     μ-loop
     loop-holds
     copy-saying-requires
-    call-requires
-    judge-requires
-    wrapping-add-u64-requires
-    wrapping-add-u64-requires-2
+    run-line-requires
     sub-turns
     loop-less
     loop-again

@@ -6,16 +6,14 @@ use Rattle.shift_examples.proofs.main.Reads as reads
 use Rattle.shift_examples.proofs.main.Lts as lts
 use Rattle.example_calls.proofs.start.Reads as start-reads
 use Rattle.example_script.proofs.copy_saying.Reads as copy-saying-reads
-use Rattle.example_script.proofs.judge.Reads as judge-reads
 use Rattle.example_script.proofs.write_counts.Reads as write-counts-reads
-use Rattle.shift_examples.proofs.call.Reads as call-reads
-use Rattle.std.proofs.num.wrapping_add_u64.Reads as wrapping-add-u64-reads
+use Rattle.shift_examples.proofs.run_line.Reads as run-line-reads
 
 abbrev Inv-loop : tie.InvT-loop
-Inv-loop run₀ right₀ count₀ turns₀ run right count turns = Unit {0}
+Inv-loop run₀ turns₀ run turns = Unit {0}
 
 abbrev μ-loop : tie.MeasureT-loop
-μ-loop run₀ right₀ count₀ turns₀ run right count turns = turns
+μ-loop run₀ turns₀ run turns = turns
 
 start-requires : tie.Need-start-requires Inv-loop μ-loop
 start-requires c κs = tt
@@ -26,17 +24,8 @@ loop-holds c = tt
 copy-saying-requires : tie.Need-copy-saying-requires Inv-loop μ-loop
 copy-saying-requires c κs = tt
 
-call-requires : tie.Need-call-requires Inv-loop μ-loop
-call-requires c κs = tt
-
-judge-requires : tie.Need-judge-requires Inv-loop μ-loop
-judge-requires c κs = tt
-
-wrapping-add-u64-requires : tie.Need-wrapping-add-u64-requires Inv-loop μ-loop
-wrapping-add-u64-requires c κs = tt
-
-wrapping-add-u64-requires-2 : tie.Need-wrapping-add-u64-requires-2 Inv-loop μ-loop
-wrapping-add-u64-requires-2 c κs = tt
+run-line-requires : tie.Need-run-line-requires Inv-loop μ-loop
+run-line-requires c κs = tt
 
 sub-turns : tie.Need-sub-turns Inv-loop μ-loop
 sub-turns c = omega arith
@@ -62,10 +51,7 @@ main-spec =
     start-requires
     loop-holds
     copy-saying-requires
-    call-requires
-    judge-requires
-    wrapping-add-u64-requires
-    wrapping-add-u64-requires-2
+    run-line-requires
     sub-turns
     loop-less
     loop-again
