@@ -1,0 +1,2 @@
+-- What the walk of the exported call rests on.
+pub mod CallKit

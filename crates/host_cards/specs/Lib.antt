@@ -1,0 +1,2 @@
+-- How calls cross from C.
+pub mod Cards

@@ -1,0 +1,3 @@
+-- The calls from the host, and what is claimed of them.
+pub mod Calls
+pub mod Claims
