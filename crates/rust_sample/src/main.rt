@@ -1,0 +1,204 @@
+// Replays calls through the host library's call by value, a card a line on standard input, and writes what it
+// answers and the record that it leaves. The file stdin holds calls, and stdout what the Rust answered to them.
+// Lines: 1 to 13 and 31 to 34 as in host_lines; 20 a refused call, its number in first; and after each accepted
+// call that is no question the record: 40 (the active number, now, and the quiet deadline or 0), then for each id
+// with anything in its row 41 (the tag, the id, the deadline of its sent timer and of its held timer, or 0). The tag
+// is 100 x mark + 10 x held + sent, where
+//     sent  0 none; guard 1 unarmed, 2 armed, 3 exploded; promise 8 unarmed, 4 armed, 5 exploded, and revoking 9, 6, 7
+//     held  0 none; guard 5 unarmed, 1 armed, 2 exploded; promise 6 unarmed, 3 armed, 4 exploded
+use biasflint::call;
+use host_cards::CallC;
+use host_lines::AnswerC;
+use host_lines::LineC;
+use host_record::ManagerC;
+use host_record::PeerC;
+use sample_columns::read_card;
+use sample_columns::write_line;
+
+// More calls than the file has.
+const TURNS: u64 = 1_000_000;
+
+// The record between two cards, and whether there was one more.
+struct Turn {
+    there: bool,
+    manager: ManagerC,
+}
+
+// The sent part of a row's tag.
+fn sent_tag(p: PeerC) -> u64 {
+    if p.guard_sent > 0 {
+        return p.guard_sent as u64;
+    }
+    match p.promise_sent {
+        0 => 0,
+        1 => 8 + (p.revoking % 2) as u64,
+        2 => 4 + (p.revoking % 2 * 2) as u64,
+        _ => 5 + (p.revoking % 2 * 2) as u64,
+    }
+}
+
+// A held entry's part of the tag, by its own tag.
+fn held_entry(tag: u8, unarmed: u64, armed: u64) -> u64 {
+    match tag {
+        1 => unarmed % 10,
+        2 => armed % 10,
+        _ => armed % 10 + 1,
+    }
+}
+
+// The held part of a row's tag.
+fn held_tag(p: PeerC) -> u64 {
+    if p.guard_held > 0 {
+        return held_entry(p.guard_held, 5, 1);
+    }
+    if p.promise_held > 0 {
+        return held_entry(p.promise_held, 6, 3);
+    }
+    0
+}
+
+// The larger of a side's two deadlines: at most one is not 0.
+fn deadline(guard: u64, promise: u64) -> u64 {
+    if guard > 0 { guard } else { promise }
+}
+
+// Writes a row that has anything in it.
+fn write_row(i: usize, p: PeerC) {
+    let mark = (p.refresh_mark % 2) as u64 * 100;
+    let sent = sent_tag(p) % 10;
+    let held = held_tag(p) % 100 * 10;
+    let tag = mark + held + sent;
+    if tag > 0 {
+        write_line(LineC {
+            code: 41,
+            number: tag,
+            peer: i as u64,
+            first: deadline(p.guard_sent_at, p.promise_sent_at),
+            second: deadline(p.guard_held_at, p.promise_held_at),
+        });
+    }
+}
+
+fn write_rows(peers: [PeerC; 64]) {
+    let mut i: usize = 0;
+    while i < 64 {
+        let row = peers[i];
+        write_row(i, row);
+        i = i + 1;
+    }
+}
+
+// Writes the record that an accepted call left; a question leaves it as it was.
+fn write_record(code: u64, m: ManagerC) {
+    if code < 12 {
+        write_line(LineC {
+            code: 40,
+            number: m.active_num,
+            peer: 0,
+            first: m.now,
+            second: m.quiet_until,
+        });
+        let peers = m.peers;
+        write_rows(peers);
+    }
+}
+
+// Writes the answer's lines.
+fn write_lines(a: AnswerC) {
+    let one = a.one;
+    let two = a.two;
+    let three = a.three;
+    if a.count > 0 {
+        write_line(one);
+    }
+    if a.count > 1 {
+        write_line(two);
+    }
+    if a.count > 2 {
+        write_line(three);
+    }
+}
+
+fn write_refusal(k: u64) {
+    write_line(LineC {
+        code: 20,
+        number: 0,
+        peer: 0,
+        first: k,
+        second: 0,
+    });
+}
+
+// The call of a card, and what it answers.
+fn run_card(before: ManagerC, c: CallC) -> ManagerC {
+    let called = call(before, c);
+    let answer = called.answer;
+    let manager = called.manager;
+    if answer.refused > 0 {
+        write_refusal(answer.refused);
+    } else {
+        write_lines(answer);
+        write_record(c.code, manager);
+    }
+    manager
+}
+
+// One more card, if there is one.
+fn turn(before: ManagerC) -> Turn {
+    let card = read_card();
+    let c = card.call;
+    if card.there {
+        let manager = run_card(before, c);
+        return Turn {
+            there: true,
+            manager,
+        };
+    }
+    Turn {
+        there: false,
+        manager: before,
+    }
+}
+
+// Nothing that any call but set-up takes.
+fn blank() -> ManagerC {
+    let row = PeerC {
+        guard_sent: 0,
+        promise_sent: 0,
+        guard_held: 0,
+        promise_held: 0,
+        revoking: 0,
+        refresh_mark: 0,
+        guard_sent_at: 0,
+        promise_sent_at: 0,
+        guard_held_at: 0,
+        promise_held_at: 0,
+    };
+    let peers = [row; 64];
+    ManagerC {
+        me: 0,
+        population: 0,
+        expire_timeout: 0,
+        now: 0,
+        active_num: 0,
+        quotient: 1.0,
+        quiet_until: 0,
+        drifting: 0,
+        quiet: 0,
+        peers,
+    }
+}
+
+fn main() {
+    let manager = blank();
+    let mut t = Turn {
+        there: true,
+        manager,
+    };
+    let mut turns: u64 = TURNS;
+    while turns > 0 && t.there {
+        let before = t.manager;
+        t = turn(before);
+        turns -= 1;
+    }
+}
