@@ -29,7 +29,8 @@ fn sent_tag(p: PeerC) -> u64 {
     if p.guard_sent > 0 {
         return p.guard_sent as u64;
     }
-    match p.promise_sent {
+    let promise = p.promise_sent;
+    match promise {
         0 => 0,
         1 => 8 + (p.revoking % 2) as u64,
         2 => 4 + (p.revoking % 2 * 2) as u64,
@@ -144,7 +145,7 @@ fn run_card(before: ManagerC, c: CallC) -> ManagerC {
 }
 
 // One more card, if there is one.
-fn turn(before: ManagerC) -> Turn {
+fn run_turn(before: ManagerC) -> Turn {
     let card = read_card();
     let c = card.call;
     if card.there {
@@ -198,7 +199,7 @@ fn main() {
     let mut turns: u64 = TURNS;
     while turns > 0 && t.there {
         let before = t.manager;
-        t = turn(before);
+        t = run_turn(before);
         turns -= 1;
     }
 }

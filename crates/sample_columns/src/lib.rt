@@ -25,10 +25,10 @@ fn lengthened(value: u64, c: u8) -> u64 {
 }
 
 // The number in the columns from `start` up to `end`.
-fn column(card: [u8; 74], start: usize, end: usize) -> u64 {
+fn column(card: &[u8], start: usize, end: usize) -> u64 {
     let mut value: u64 = 0;
     let mut i: usize = start;
-    while i < end && i < CARD {
+    while i < end && i < card.len() {
         let c = card[i];
         value = lengthened(value, c);
         i = i + 1;
@@ -41,12 +41,12 @@ pub fn read_card() -> Card {
     let mut b = [0u8; 74];
     let n = io::read_full(0, &mut b);
     let call = CallC {
-        code: column(b, 0, 2),
-        number: column(b, 2, 23),
-        peer: column(b, 23, 27),
-        size: column(b, 27, 31),
-        first: column(b, 31, 52),
-        second: column(b, 52, 73),
+        code: column(&b, 0, 2),
+        number: column(&b, 2, 23),
+        peer: column(&b, 23, 27),
+        size: column(&b, 27, 31),
+        first: column(&b, 31, 52),
+        second: column(&b, 52, 73),
     };
     Card {
         there: n == CARD,

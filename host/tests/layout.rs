@@ -1,0 +1,501 @@
+//! That the library has the sizes and offsets that `raw` asserts. Fields are overwritten as bytes at
+//! those offsets, and the answers show that the library reads and writes them there. The record lies
+//! in a larger buffer whose other bytes no call may touch.
+
+use std::mem::{offset_of, size_of};
+
+use biasflint::raw::{self, AnswerC, CallC, LineC, ManagerC, PeerC};
+
+const ME: u64 = 5;
+const NOW: u64 = 7_000_000_000;
+const T: u64 = 1_000_000_000;
+// The first row, a middle one and the last.
+const ROWS: [usize; 3] = [0, 31, 63];
+const SIZE: usize = size_of::<ManagerC>();
+const GUARD: [u8; 64] = [0xC3; 64];
+
+#[repr(C, align(8))]
+#[derive(Clone, Copy)]
+struct Lent {
+    before: [u8; 64],
+    record: [u8; SIZE],
+    after: [u8; 64],
+}
+
+// A field's new contents: the offset, and the bytes.
+type Write = (usize, Vec<u8>);
+
+macro_rules! byte {
+    ($field:ident, $value:expr) => {
+        (offset_of!(ManagerC, $field), vec![$value])
+    };
+}
+
+macro_rules! word {
+    ($field:ident, $value:expr) => {
+        (offset_of!(ManagerC, $field), $value.to_ne_bytes().to_vec())
+    };
+}
+
+macro_rules! tag {
+    ($id:expr, $field:ident, $value:expr) => {
+        (row($id) + offset_of!(PeerC, $field), vec![$value])
+    };
+}
+
+macro_rules! deadline {
+    ($id:expr, $field:ident, $value:expr) => {
+        (
+            row($id) + offset_of!(PeerC, $field),
+            u64::to_ne_bytes($value).to_vec(),
+        )
+    };
+}
+
+fn row(id: usize) -> usize {
+    offset_of!(ManagerC, peers) + id * size_of::<PeerC>()
+}
+
+// Which bytes belong to no field: six behind `quiet`, two behind each row's `refresh_mark`.
+fn is_padding(at: usize) -> bool {
+    let peers = offset_of!(ManagerC, peers);
+    match at.checked_sub(peers) {
+        None => at > offset_of!(ManagerC, quiet),
+        Some(in_rows) => (6..8).contains(&(in_rows % size_of::<PeerC>())),
+    }
+}
+
+impl Lent {
+    // What set-up leaves, with that byte in the padding.
+    fn set_up(padding: u8) -> Lent {
+        let mut lent = Lent {
+            before: GUARD,
+            record: [padding; SIZE],
+            after: GUARD,
+        };
+        assert_eq!(lent.call(card(1, NOW, ME, 64, T, 0)), lines(&[]));
+        for at in (0..SIZE).filter(|&at| is_padding(at)) {
+            lent.record[at] = padding;
+        }
+        lent
+    }
+
+    fn with(mut self, writes: &[Write]) -> Lent {
+        for (at, bytes) in writes {
+            self.record[*at..at + bytes.len()].copy_from_slice(bytes);
+        }
+        self
+    }
+
+    fn call(&mut self, card: CallC) -> AnswerC {
+        let whole: *mut Lent = self;
+        // SAFETY: the record's bytes are all there, at a multiple of 8, and any bytes are a record.
+        let record = unsafe { &mut *(&raw mut (*whole).record).cast::<ManagerC>() };
+        let answer = raw::call(record, card);
+        let lent = std::hint::black_box(self);
+        assert_eq!((lent.before, lent.after), (GUARD, GUARD));
+        answer
+    }
+
+    fn manager(&self) -> ManagerC {
+        // SAFETY: as above; the copy needs no alignment.
+        unsafe { self.record.as_ptr().cast::<ManagerC>().read_unaligned() }
+    }
+
+    fn fields(&self) -> Vec<u8> {
+        let of_fields = (0..SIZE).filter(|&at| !is_padding(at));
+        of_fields.map(|at| self.record[at]).collect()
+    }
+}
+
+fn card(code: u64, number: u64, peer: u64, size: u64, first: u64, second: u64) -> CallC {
+    CallC {
+        code,
+        number,
+        peer,
+        size,
+        first,
+        second,
+    }
+}
+
+fn line(code: u64, number: u64, peer: u64, first: u64, second: u64) -> LineC {
+    LineC {
+        code,
+        number,
+        peer,
+        first,
+        second,
+    }
+}
+
+fn lines(given: &[LineC]) -> AnswerC {
+    let at = |i: usize| given.get(i).copied().unwrap_or_default();
+    AnswerC {
+        refused: 0,
+        count: given.len() as u64,
+        one: at(0),
+        two: at(1),
+        three: at(2),
+    }
+}
+
+fn refused(number: u64) -> AnswerC {
+    AnswerC {
+        refused: number,
+        ..AnswerC::default()
+    }
+}
+
+fn advance(to: u64) -> CallC {
+    card(2, to, 0, 0, 0, 0)
+}
+
+fn clear_held(num: u64) -> CallC {
+    card(5, num, 0, 0, 0, 0)
+}
+
+fn recv(id: usize, kind: u64, first: u64) -> CallC {
+    card(6, 0, id as u64, kind, first, 0)
+}
+
+fn question(code: u64) -> CallC {
+    card(code, 0, 0, 0, 0, 0)
+}
+
+fn set(size: u64, bits: u64) -> AnswerC {
+    lines(&[line(32, 0, size, bits, 0)])
+}
+
+fn fired(sent: u64, held: u64) -> AnswerC {
+    lines(&[line(31, 0, 0, sent, held)])
+}
+
+// The answer after those writes, on any padding. A refused call leaves every byte of a field.
+fn check(what: &str, writes: &[Write], card: CallC, want: AnswerC) {
+    for padding in [0x00, 0xAA, 0xFF] {
+        let mut lent = Lent::set_up(padding).with(writes);
+        let before = lent.fields();
+        assert_eq!(lent.call(card), want, "{what}, padding {padding:#x}");
+        assert!(want.refused == 0 || lent.fields() == before, "{what}");
+    }
+}
+
+const CNT: u64 = 14;
+const ONE: LineC = LineC {
+    code: 33,
+    number: 0,
+    peer: 0,
+    first: 1,
+    second: 0,
+};
+
+// The record is accepted after those writes, or refused with 15.
+fn check_record(what: &str, writes: &[Write], valid: bool) {
+    let want = if valid { lines(&[ONE]) } else { refused(15) };
+    check(what, writes, question(CNT), want);
+}
+
+#[test]
+fn limits_of_the_record() {
+    for (what, write, valid) in [
+        ("me", word!(me, 63_u64), true),
+        ("me", word!(me, 64_u64), false),
+        ("population", word!(population, 6_u64), true),
+        ("population", word!(population, 5_u64), false),
+        ("population", word!(population, 65_u64), false),
+        ("T", word!(expire_timeout, 99_999_999_u64), false),
+        ("T", word!(expire_timeout, 100_000_000_u64), true),
+        ("T", word!(expire_timeout, 10_000_000_000_u64), true),
+        ("T", word!(expire_timeout, 10_000_000_001_u64), false),
+        ("now", word!(now, 0_u64), true),
+        ("now", word!(now, i64::MAX as u64), true),
+        ("now", word!(now, i64::MAX as u64 + 1), false),
+        ("active_num", word!(active_num, u64::MAX), true),
+        ("quotient", word!(quotient, 0.8_f64), false),
+        ("quiet_until", word!(quiet_until, NOW + 9), false),
+        ("drifting", byte!(drifting, 1), true),
+        ("drifting", byte!(drifting, 2), false),
+        ("quiet", byte!(quiet, 1), false),
+    ] {
+        check_record(what, &[write], valid);
+    }
+    let drifting = |q: f64| [byte!(drifting, 1), word!(quotient, q)];
+    for (q, valid) in [(0.8, true), (100.0, true), (0.81, false), (f64::NAN, false)] {
+        check_record("a drifting quotient", &drifting(q), valid);
+    }
+    let quiet = |tag: u8, until: u64| [byte!(quiet, tag), word!(quiet_until, until)];
+    for (tag, until, valid) in [(1, NOW + 1, true), (1, NOW, false), (2, NOW + 1, false)] {
+        check_record("quiet time", &quiet(tag, until), valid);
+    }
+}
+
+#[test]
+fn fields_of_the_record_are_read() {
+    let quiet = [byte!(quiet, 1), word!(quiet_until, NOW + 9)];
+    let in_quiet = |write: Write| [&quiet[..], &[write]].concat();
+    let grant_set = question(12);
+    let fewer = (1 << 63) - 1 - (1 << ME);
+    check("quiet", &quiet, grant_set, set(64, !(1 << ME)));
+    check(
+        "me",
+        &in_quiet(word!(me, 7_u64)),
+        grant_set,
+        set(64, !(1 << 7)),
+    );
+    let population = in_quiet(word!(population, 63_u64));
+    check("population", &population, grant_set, set(63, fewer));
+
+    let ends = lines(&[line(31, 0, 0, 0, 0), line(10, 0, ME + 1, 0, 0)]);
+    check("quiet_until", &quiet, advance(NOW + 8), fired(0, 0));
+    check("quiet_until", &quiet, advance(NOW + 9), ends);
+
+    let now = [word!(now, NOW + 5)];
+    check("now", &now, advance(NOW + 4), refused(6));
+    check("now", &now, advance(NOW + 5), fired(0, 0));
+
+    let num = [word!(active_num, 9_u64)];
+    let cleared = |n| line(9, n, 0, 0, 0);
+    check("active_num", &num, clear_held(8), lines(&[]));
+    check("active_num", &num, clear_held(9), lines(&[cleared(9)]));
+    let higher = lines(&[line(12, 10, 0, 0, 0), cleared(10)]);
+    check("active_num", &num, clear_held(10), higher);
+}
+
+#[test]
+fn tags_of_a_row_are_read() {
+    for r in ROWS {
+        let (id, bit) = (r as u64, 1 << r);
+        let promise = lines(&[line(4, 0, id, 0, 0)]);
+        let reply = |held| lines(&[line(5, 0, id, held, 0)]);
+        let left = |there| lines(&[line(34, 0, there, 0, 0)]);
+        let time_left = card(15, 0, id, 0, 0, 0);
+
+        check("no guard sent", &[], recv(r, 3, 0), lines(&[]));
+        check(
+            "guard_sent",
+            &[tag!(r, guard_sent, 1)],
+            recv(r, 3, 0),
+            promise,
+        );
+        check("no promise sent", &[], question(12), set(64, 0));
+        check(
+            "promise_sent",
+            &[tag!(r, promise_sent, 3)],
+            question(12),
+            set(64, bit),
+        );
+        check("no guard held", &[], recv(r, 4, 0), reply(0));
+        check(
+            "guard_held",
+            &[tag!(r, guard_held, 3)],
+            recv(r, 4, 0),
+            reply(1),
+        );
+        check("no promise held", &[], time_left, left(0));
+        check(
+            "promise_held",
+            &[tag!(r, promise_held, 3)],
+            time_left,
+            left(1),
+        );
+
+        let sent = [
+            tag!(r, promise_sent, 2),
+            deadline!(r, promise_sent_at, NOW + 9),
+        ];
+        let and = |write: Write| [&sent[..], &[write]].concat();
+        let marks = lines(&[line(7, 0, id, 0, 0)]);
+        check("not revoking", &sent, recv(r, 5, 1), marks);
+        check(
+            "revoking",
+            &and(tag!(r, revoking, 1)),
+            recv(r, 5, 1),
+            lines(&[]),
+        );
+        check("no mark", &sent, question(10), set(64, 0));
+        check(
+            "refresh_mark",
+            &and(tag!(r, refresh_mark, 1)),
+            question(10),
+            set(64, bit),
+        );
+        check_record("revoking 2", &and(tag!(r, revoking, 2)), false);
+
+        for (what, write) in [
+            ("guard_sent", tag!(r, guard_sent, 4)),
+            ("promise_sent", tag!(r, promise_sent, 4)),
+            ("guard_held", tag!(r, guard_held, 4)),
+            ("promise_held", tag!(r, promise_held, 4)),
+            ("revoking", tag!(r, revoking, 1)),
+            ("refresh_mark", tag!(r, refresh_mark, 2)),
+        ] {
+            check_record(what, &[write], false);
+        }
+    }
+}
+
+#[test]
+fn deadlines_of_a_row_are_read() {
+    for r in ROWS {
+        let bit = 1 << r;
+        let due = NOW + 3_000_000;
+        let sent = [tag!(r, promise_sent, 2), deadline!(r, promise_sent_at, due)];
+        let guard = [tag!(r, guard_held, 2), deadline!(r, guard_held_at, due)];
+        let promise = [tag!(r, promise_held, 2), deadline!(r, promise_held_at, due)];
+        check("promise_sent_at", &sent, advance(due), fired(bit, 0));
+        check("guard_held_at", &guard, advance(due), fired(0, bit));
+        check("promise_held_at", &promise, advance(due), fired(0, bit));
+        for armed in [&sent, &guard, &promise] {
+            check("before it is due", armed, advance(due - 1), fired(0, 0));
+        }
+        let left = lines(&[line(34, 0, 1, 3, 0)]);
+        check("time left", &promise, card(15, 0, r as u64, 0, 0, 0), left);
+
+        // With every other timer armed, its deadline would be accepted in any field but this one.
+        let guard_sent_at = deadline!(r, guard_sent_at, due);
+        for held in [&guard, &promise] {
+            let armed = [&sent[..], held].concat();
+            check("all armed", &armed, advance(due), fired(bit, bit));
+            let and_this = [&armed[..], std::slice::from_ref(&guard_sent_at)].concat();
+            check_record("guard_sent_at", &and_this, false);
+        }
+    }
+}
+
+// A step: the card, and what it changes in the record.
+type Step<'a> = (CallC, &'a dyn Fn(&mut ManagerC));
+
+#[test]
+fn fields_are_written() {
+    let mut lent = Lent::set_up(0xAA);
+    let mut want = ManagerC {
+        me: ME as usize,
+        population: 64,
+        expire_timeout: T,
+        now: NOW,
+        quotient: 1.0,
+        ..ManagerC::BLANK
+    };
+    assert_eq!(lent.manager(), want);
+    for r in ROWS {
+        let start = want.now;
+        let notice = |code, first| card(code, r as u64 + 1, 0, 64, first, 0);
+        let recv = |kind, first| card(6, r as u64 + 1, r as u64, kind, first, 0);
+        let steps: [Step; 12] = [
+            (notice(3, 1 << r), &|m| {
+                m.active_num = r as u64 + 1;
+                m.peers = ManagerC::BLANK.peers;
+                m.peers[r].guard_sent = 1;
+            }),
+            (recv(3, 0), &|m| {
+                m.peers[r].guard_sent = 0;
+                m.peers[r].promise_sent = 2;
+                m.peers[r].promise_sent_at = start + 2 * T;
+            }),
+            (recv(1, 0), &|m| {
+                m.peers[r].guard_held = 2;
+                m.peers[r].guard_held_at = start + T;
+            }),
+            (advance(start + 4), &|m| m.now = start + 4),
+            (recv(5, 1), &|m| {
+                m.peers[r].promise_sent_at = start + 4 + T;
+                m.peers[r].refresh_mark = 1;
+            }),
+            (recv(4, 0), &|m| {
+                m.peers[r].guard_held = 0;
+                m.peers[r].guard_held_at = 0;
+                m.peers[r].promise_held = 2;
+                m.peers[r].promise_held_at = start + 4 + T;
+            }),
+            (notice(4, 1 << r), &|m| m.peers[r].revoking = 1),
+            (question(10), &|m| m.peers[r].refresh_mark = 0),
+            (card(11, 0, 0, 1, 128 + 25, 0), &|m| {
+                m.drifting = 1;
+                m.quotient = 0.8;
+            }),
+            (question(9), &|m| {
+                m.quiet = 1;
+                m.quiet_until = start + 4 + 1_600_000_000;
+            }),
+            (advance(start + 2 * T), &|m| {
+                m.now = start + 2 * T;
+                m.quiet = 0;
+                m.quiet_until = 0;
+                for tag in [&mut m.peers[r].promise_sent, &mut m.peers[r].promise_held] {
+                    *tag = 3;
+                }
+                m.peers[r].promise_sent_at = 0;
+                m.peers[r].promise_held_at = 0;
+            }),
+            (question(11), &|m| {
+                m.drifting = 0;
+                m.quotient = 1.0;
+            }),
+        ];
+        for (i, (card, change)) in steps.into_iter().enumerate() {
+            assert_eq!(lent.call(card).refused, 0, "row {r}, step {i}");
+            change(&mut want);
+            assert_eq!(lent.manager(), want, "row {r}, step {i}");
+        }
+    }
+}
+
+#[test]
+fn fields_of_a_card_are_read() {
+    let set_up = card(1, NOW, ME, 64, T, T / 2 - 1);
+    check("set-up", &[], set_up, lines(&[]));
+    for (what, card, number) in [
+        ("code", CallC { code: 16, ..set_up }, 22),
+        (
+            "number",
+            CallC {
+                number: i64::MAX as u64 + 1,
+                ..set_up
+            },
+            5,
+        ),
+        ("peer", CallC { peer: 64, ..set_up }, 4),
+        ("size", CallC { size: 65, ..set_up }, 3),
+        (
+            "first",
+            CallC {
+                first: 99_999_999,
+                ..set_up
+            },
+            1,
+        ),
+        (
+            "second",
+            CallC {
+                second: T / 2,
+                ..set_up
+            },
+            2,
+        ),
+    ] {
+        check(what, &[], card, refused(number));
+    }
+}
+
+#[test]
+fn fields_of_an_answer_are_read() {
+    let (bits, bar) = (0x8765_4321_0FED_CB9A, 0xBA5E_BA11);
+    let guard = line(1, 11, 1, bits & !(1 << ME), bar);
+    let grants = card(3, 11, 1, 64, bits, bar);
+    let higher = |num| line(12, num, 0, 0, 0);
+    check("two lines", &[], grants, lines(&[higher(11), guard]));
+
+    let (bar_came, reply) = (line(13, 12, 9, bar, 0), line(3, 12, 9, 0, 0));
+    let three = lines(&[higher(12), bar_came, reply]);
+    check("three lines", &[], card(6, 12, 9, 2, bar, 0), three);
+
+    let due = NOW + 1;
+    let timers = [
+        tag!(2, promise_sent, 2),
+        deadline!(2, promise_sent_at, due),
+        tag!(40, guard_held, 2),
+        deadline!(40, guard_held_at, due),
+    ];
+    check("two sets", &timers, advance(due), fired(1 << 2, 1 << 40));
+}
