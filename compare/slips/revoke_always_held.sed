@@ -1,0 +1,2 @@
+# held_ends: RevokeReply says that a promise was held
+s/RevokeReply(held)/RevokeReply(true)/
