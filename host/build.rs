@@ -1,5 +1,5 @@
-//! Links libbiasflint.a, which `rt staticlib biasflint` writes, from ../target/staticlib or from the folder that
-//! BIASFLINT_LIB names.
+//! Links `libbiasflint.a`, which `rt staticlib biasflint` writes, from `../target/staticlib` or
+//! from the folder that `BIASFLINT_LIB` names.
 use std::{env, path::PathBuf};
 
 fn main() {

@@ -10,9 +10,9 @@ pub const CAPACITY: usize = 64;
 
 /// A set of ids below a size. As in document 01, a size is 1 to 64.
 ///
-/// A set of another size can be made, so that the manager is the one to judge it: it is refused with
-/// 9 in a notice and with 12 in a refresh. Such a set has no ones but ids below both its size and 64,
-/// and [`set`](Bitmap::set), [`get`](Bitmap::get) and [`union`](Bitmap::union) give
+/// A set of another size can be made, so that the manager is the one to judge it: it is refused
+/// with 9 in a notice and with 12 in a refresh. Such a set has no ids but those below both its size
+/// and 64, and [`set`](Bitmap::set), [`get`](Bitmap::get) and [`union`](Bitmap::union) give
 /// [`BitmapError::BadSize`] on it. Nothing here panics.
 ///
 /// ```
@@ -63,8 +63,8 @@ impl Bitmap {
         Bitmap::from_bits(size, if ones { u64::MAX } else { 0 })
     }
 
-    /// The set of that size whose ids are the ones of a number, id i as 2 to the i. Ones at or above
-    /// the size count as zeros.
+    /// The set of that size whose ids are the ones of a number, id i as 2 to the i. Ones at or
+    /// above the size count as zeros.
     ///
     /// ```
     /// use biasflint::Bitmap;
@@ -114,11 +114,7 @@ impl Bitmap {
     // The number of the set that has the id alone, once the size and the id are looked at.
     fn bit_of(&self, idx: ReplicaId) -> Result<u64, BitmapError> {
         self.check_size()?;
-        if idx < self.size {
-            Ok(1 << idx)
-        } else {
-            Err(BitmapError::BadId)
-        }
+        if idx < self.size { Ok(1 << idx) } else { Err(BitmapError::BadId) }
     }
 
     /// Puts an id in or takes it out.
@@ -127,11 +123,7 @@ impl Bitmap {
     /// `BadSize`, then `BadId`; the set is then as before.
     pub fn set(&mut self, idx: ReplicaId, flag: bool) -> Result<(), BitmapError> {
         let bit = self.bit_of(idx)?;
-        self.bits = if flag {
-            self.bits | bit
-        } else {
-            self.bits & !bit
-        };
+        self.bits = if flag { self.bits | bit } else { self.bits & !bit };
         Ok(())
     }
 
@@ -329,9 +321,6 @@ mod tests {
         let shown = [0, 0b1, 0b1101].map(|bits| format!("{:?}", Bitmap::from_bits(4, bits)));
         assert_eq!(shown, ["{}", "{0}", "{0,2,3}"]);
         assert_eq!(format!("{:5?}|", Bitmap::from_bits(4, 2)), "{1}  |");
-        assert_eq!(
-            BitmapError::SizesDiffer.to_string(),
-            "11: the sets' sizes differ"
-        );
+        assert_eq!(BitmapError::SizesDiffer.to_string(), "11: the sets' sizes differ");
     }
 }

@@ -12,10 +12,7 @@ use crate::{LeaseNum, Line, Reading, Refusal, ReplicaId};
 
 /// A call that has nothing but its code.
 pub(crate) fn plain(code: u64) -> CallC {
-    CallC {
-        code,
-        ..CallC::default()
-    }
+    CallC { code, ..CallC::default() }
 }
 
 pub(crate) const QUIET: u64 = 9;
@@ -41,10 +38,7 @@ pub(crate) fn setup(
 }
 
 pub(crate) fn advance(to: Reading) -> CallC {
-    CallC {
-        number: to.0,
-        ..plain(2)
-    }
+    CallC { number: to.0, ..plain(2) }
 }
 
 pub(crate) fn refresh(peers: Option<&Bitmap>) -> CallC {
@@ -56,18 +50,11 @@ pub(crate) fn drift(setting: DriftSetting) -> CallC {
         DriftSetting::True => (0, 0),
         DriftSetting::Drifting(percent) => (1, (i64::from(percent) + 128) as u64),
     };
-    CallC {
-        size,
-        first,
-        ..plain(11)
-    }
+    CallC { size, first, ..plain(11) }
 }
 
 pub(crate) fn time_left(peer: ReplicaId) -> CallC {
-    CallC {
-        peer: peer as u64,
-        ..plain(15)
-    }
+    CallC { peer: peer as u64, ..plain(15) }
 }
 
 // A card's size 0 is "no set", so a set of size 0 crosses as one of size 256. A card's size above
@@ -79,11 +66,7 @@ fn with_set(card: CallC, peers: Option<&Bitmap>) -> CallC {
         Some(set) if set.size() == 0 => (256, 0),
         Some(set) => (set.size() as u64, set.bits()),
     };
-    CallC {
-        size,
-        first,
-        ..card
-    }
+    CallC { size, first, ..card }
 }
 
 pub(crate) fn notice(num: LeaseNum, notice: LeaseNotice) -> CallC {
@@ -96,40 +79,24 @@ pub(crate) fn notice(num: LeaseNum, notice: LeaseNotice) -> CallC {
         LeaseNotice::DoRevoke { peers } => with_set(plain(4), peers.as_ref()),
         LeaseNotice::ClearHeld => plain(5),
         LeaseNotice::RecvLeaseMsg { peer, msg } => recv(peer, msg),
-        LeaseNotice::GrantTimeout { peer } => CallC {
-            peer: peer as u64,
-            ..plain(7)
-        },
-        LeaseNotice::LeaseTimeout { peer } => CallC {
-            peer: peer as u64,
-            ..plain(8)
-        },
+        LeaseNotice::GrantTimeout { peer } => CallC { peer: peer as u64, ..plain(7) },
+        LeaseNotice::LeaseTimeout { peer } => CallC { peer: peer as u64, ..plain(8) },
     };
-    CallC {
-        number: num.0,
-        ..card
-    }
+    CallC { number: num.0, ..card }
 }
 
 // A message: its kind in size, what it carries in first.
 fn recv(peer: ReplicaId, msg: LeaseMsg) -> CallC {
     let (size, first) = match msg {
         LeaseMsg::Guard { accept_bar: None } => (1, 0),
-        LeaseMsg::Guard {
-            accept_bar: Some(bar),
-        } => (2, bar.0),
+        LeaseMsg::Guard { accept_bar: Some(bar) } => (2, bar.0),
         LeaseMsg::GuardReply => (3, 0),
         LeaseMsg::Promise => (4, 0),
         LeaseMsg::PromiseReply { held } => (5, u64::from(held)),
         LeaseMsg::Revoke => (6, 0),
         LeaseMsg::RevokeReply { held } => (7, u64::from(held)),
     };
-    CallC {
-        peer: peer as u64,
-        size,
-        first,
-        ..plain(6)
-    }
+    CallC { peer: peer as u64, size, first, ..plain(6) }
 }
 
 // ---- answers
@@ -186,14 +153,10 @@ fn action(line: LineC, population: usize) -> Line {
     let peer = line.peer as ReplicaId;
     let held = line.first == 1;
     let send = |msg| LeaseAction::SendLeaseMsg { peer, msg };
-    let bcast = |msg| LeaseAction::BcastLeaseMsgs {
-        peers: Bitmap::from_bits(population, line.first),
-        msg,
-    };
+    let bcast =
+        |msg| LeaseAction::BcastLeaseMsgs { peers: Bitmap::from_bits(population, line.first), msg };
     let action = match line.code {
-        1 => bcast(LeaseMsg::Guard {
-            accept_bar: (line.peer == 1).then_some(Bar(line.second)),
-        }),
+        1 => bcast(LeaseMsg::Guard { accept_bar: (line.peer == 1).then_some(Bar(line.second)) }),
         2 => bcast(LeaseMsg::Revoke),
         3 => send(LeaseMsg::GuardReply),
         4 => send(LeaseMsg::Promise),
@@ -205,10 +168,7 @@ fn action(line: LineC, population: usize) -> Line {
         10 => LeaseAction::GrantTimeout { peer },
         11 => LeaseAction::LeaseTimeout { peer },
         12 => LeaseAction::HigherNumber,
-        13 => LeaseAction::GuardAcceptBar {
-            peer,
-            accept_bar: Bar(line.first),
-        },
+        13 => LeaseAction::GuardAcceptBar { peer, accept_bar: Bar(line.first) },
         _ => unreachable!("the library has no action {line:?}"),
     };
     (LeaseNum(line.number), action)

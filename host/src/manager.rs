@@ -15,7 +15,8 @@ use crate::{ReplicaId, cards};
 ///
 /// A refused call leaves the record as it was. Before anything else every call looks at the record,
 /// and one that no call from set-up leads to is refused with [`Refusal::BadRecord`]: this can only
-/// happen after [`from_record`](LeaseManager::from_record). No call panics, allocates or waits.
+/// happen after [`from_record`](LeaseManager::from_record). No call allocates or waits, and none
+/// panics unless the library breaks its contract.
 ///
 /// ```
 /// use biasflint::{LeaseManager, LeaseMsg, LeaseNotice, LeaseNum, Reading};
@@ -25,7 +26,8 @@ use crate::{ReplicaId, cards};
 /// let (t, hb) = (Duration::from_secs(1), Duration::from_millis(100));
 /// let mut manager = LeaseManager::new_and_setup(0, 3, t, hb, Reading(0))?;
 /// for msg in [LeaseMsg::Guard { accept_bar: None }, LeaseMsg::Promise] {
-///     for (num, action) in manager.add_notice(LeaseNum(1), LeaseNotice::RecvLeaseMsg { peer: 2, msg })? {
+///     let notice = LeaseNotice::RecvLeaseMsg { peer: 2, msg };
+///     for (num, action) in manager.add_notice(LeaseNum(1), notice)? {
 ///         println!("to be done under {num:?}: {action:?}");
 ///     }
 /// }
@@ -129,7 +131,8 @@ impl LeaseManager {
     /// raises the number.
     ///
     /// ```
-    /// use biasflint::{Bitmap, LeaseAction, LeaseManager, LeaseMsg, LeaseNotice, LeaseNum, Reading};
+    /// use biasflint::{Bitmap, LeaseAction, LeaseManager, LeaseMsg, LeaseNotice, LeaseNum};
+    /// use biasflint::Reading;
     /// use std::time::Duration;
     ///
     /// let (t, hb) = (Duration::from_secs(1), Duration::from_millis(100));
@@ -188,9 +191,9 @@ impl LeaseManager {
         self.lend(cards::plain(cards::QUIET)).map(|_| ())
     }
 
-    /// Which peers to send a Promise to with the heartbeat that is due: those that are marked, have a
-    /// promise sent and are in the set, if there is one. They lose their marks and their timers are
-    /// extended by T. One that is being revoked or has run out loses its mark and is not named.
+    /// Which peers to send a Promise to with the heartbeat that is due: those that are marked, have
+    /// a promise sent and are in the set, if there is one. They lose their marks, and their timers
+    /// are extended by T. One that is being revoked or has run out loses its mark and is not named.
     ///
     /// # Errors
     /// 15; then 12. The set's size need not be the population.
@@ -243,8 +246,8 @@ impl LeaseManager {
         self.ask(cards::plain(cards::LEASE_CNT)).map(cards::count)
     }
 
-    /// How long the promise held from a peer lasts, in whole ms rounded down; none if there is none,
-    /// 0 if it has run out.
+    /// How long the promise held from a peer lasts, in whole ms rounded down; none if there is no
+    /// such promise, 0 if it has run out.
     ///
     /// # Errors
     /// 15; then 7, then 8.

@@ -30,8 +30,8 @@ impl Reading {
     /// The largest reading: 9,223,372,036,854,775,807 ns, some 292 years.
     pub const MAX: Reading = Reading(i64::MAX as u64);
 
-    /// The reading that long after the start. A time beyond 64 bits stays above the largest reading,
-    /// so that it is refused with 5.
+    /// The reading that long after the start. A time beyond 64 bits stays above the largest
+    /// reading, so that it is refused with 5.
     ///
     /// ```
     /// use biasflint::Reading;
@@ -210,10 +210,7 @@ impl Actions {
 
     // The first lines of those that are given, at most three.
     pub(crate) fn of(given: impl Iterator<Item = Line>) -> Actions {
-        let mut actions = Actions {
-            len: 0,
-            lines: [Actions::NONE; Actions::MOST],
-        };
+        let mut actions = Actions { len: 0, lines: [Actions::NONE; Actions::MOST] };
         for (place, line) in actions.lines.iter_mut().zip(given) {
             *place = line;
             actions.len += 1;
@@ -316,10 +313,7 @@ mod tests {
     fn long_durations_do_not_wrap() {
         assert_eq!(whole_ns(Duration::from_nanos(u64::MAX)), u64::MAX);
         // 2^64 ns and 1 ns: a wrapped count would be 1.
-        assert_eq!(
-            whole_ns(Duration::new(18_446_744_073, 709_551_617)),
-            u64::MAX
-        );
+        assert_eq!(whole_ns(Duration::new(18_446_744_073, 709_551_617)), u64::MAX);
         assert_eq!(whole_ns(Duration::MAX), u64::MAX);
     }
 }

@@ -101,7 +101,8 @@ pub struct CallC {
     pub number: u64,
     /// A peer's id or the own id, or whether there is an accept bar.
     pub peer: u64,
-    /// A set's size with 0 for no set, the population, a message's kind, or whether the clock drifts.
+    /// A set's size with 0 for no set, the population, a message's kind, or whether the clock
+    /// drifts.
     pub size: u64,
     /// A set's bits, T, a message's accept bar or `held`, or the percent of a drift plus 128.
     pub first: u64,

@@ -100,6 +100,8 @@ impl Error for Refusal {}
 
 #[cfg(test)]
 mod tests {
+    use std::collections::HashSet;
+
     use super::*;
 
     #[test]
@@ -115,9 +117,8 @@ mod tests {
 
     #[test]
     fn every_text_is_one_line_of_its_own() {
-        let mut texts: Vec<String> = Refusal::ALL.iter().map(ToString::to_string).collect();
-        assert!(texts.iter().all(|t| !t.contains('\n')));
-        texts.dedup();
+        let texts: HashSet<&str> = Refusal::ALL.map(Refusal::text).into();
         assert_eq!(texts.len(), Refusal::ALL.len());
+        assert!(texts.iter().all(|t| !t.contains('\n')));
     }
 }

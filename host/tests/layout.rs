@@ -1,6 +1,6 @@
-//! That the library has the sizes and offsets that `raw` asserts. Fields are overwritten as bytes at
-//! those offsets, and the answers show that the library reads and writes them there. The record lies
-//! in a larger buffer whose other bytes no call may touch.
+//! That the library has the sizes and offsets that `raw` asserts. Fields are overwritten as bytes
+//! at those offsets, and the answers show that the library reads and writes them there. The record
+//! lies in a larger buffer whose other bytes no call may touch, and its padding may hold anything.
 
 use std::mem::{offset_of, size_of};
 
@@ -45,10 +45,7 @@ macro_rules! tag {
 
 macro_rules! deadline {
     ($id:expr, $field:ident, $value:expr) => {
-        (
-            row($id) + offset_of!(PeerC, $field),
-            u64::to_ne_bytes($value).to_vec(),
-        )
+        (row($id) + offset_of!(PeerC, $field), u64::to_ne_bytes($value).to_vec())
     };
 }
 
@@ -68,11 +65,7 @@ fn is_padding(at: usize) -> bool {
 impl Lent {
     // What set-up leaves, with that byte in the padding.
     fn set_up(padding: u8) -> Lent {
-        let mut lent = Lent {
-            before: GUARD,
-            record: [padding; SIZE],
-            after: GUARD,
-        };
+        let mut lent = Lent { before: GUARD, record: [padding; SIZE], after: GUARD };
         assert_eq!(lent.call(card(1, NOW, ME, 64, T, 0)), lines(&[]));
         for at in (0..SIZE).filter(|&at| is_padding(at)) {
             lent.record[at] = padding;
@@ -109,42 +102,20 @@ impl Lent {
 }
 
 fn card(code: u64, number: u64, peer: u64, size: u64, first: u64, second: u64) -> CallC {
-    CallC {
-        code,
-        number,
-        peer,
-        size,
-        first,
-        second,
-    }
+    CallC { code, number, peer, size, first, second }
 }
 
 fn line(code: u64, number: u64, peer: u64, first: u64, second: u64) -> LineC {
-    LineC {
-        code,
-        number,
-        peer,
-        first,
-        second,
-    }
+    LineC { code, number, peer, first, second }
 }
 
 fn lines(given: &[LineC]) -> AnswerC {
     let at = |i: usize| given.get(i).copied().unwrap_or_default();
-    AnswerC {
-        refused: 0,
-        count: given.len() as u64,
-        one: at(0),
-        two: at(1),
-        three: at(2),
-    }
+    AnswerC { refused: 0, count: given.len() as u64, one: at(0), two: at(1), three: at(2) }
 }
 
 fn refused(number: u64) -> AnswerC {
-    AnswerC {
-        refused: number,
-        ..AnswerC::default()
-    }
+    AnswerC { refused: number, ..AnswerC::default() }
 }
 
 fn advance(to: u64) -> CallC {
@@ -182,13 +153,7 @@ fn check(what: &str, writes: &[Write], card: CallC, want: AnswerC) {
 }
 
 const CNT: u64 = 14;
-const ONE: LineC = LineC {
-    code: 33,
-    number: 0,
-    peer: 0,
-    first: 1,
-    second: 0,
-};
+const ONE: LineC = LineC { code: 33, number: 0, peer: 0, first: 1, second: 0 };
 
 // The record is accepted after those writes, or refused with 15.
 fn check_record(what: &str, writes: &[Write], valid: bool) {
@@ -237,12 +202,7 @@ fn fields_of_the_record_are_read() {
     let grant_set = question(12);
     let fewer = (1 << 63) - 1 - (1 << ME);
     check("quiet", &quiet, grant_set, set(64, !(1 << ME)));
-    check(
-        "me",
-        &in_quiet(word!(me, 7_u64)),
-        grant_set,
-        set(64, !(1 << 7)),
-    );
+    check("me", &in_quiet(word!(me, 7_u64)), grant_set, set(64, !(1 << 7)));
     let population = in_quiet(word!(population, 63_u64));
     check("population", &population, grant_set, set(63, fewer));
 
@@ -272,54 +232,21 @@ fn tags_of_a_row_are_read() {
         let time_left = card(15, 0, id, 0, 0, 0);
 
         check("no guard sent", &[], recv(r, 3, 0), lines(&[]));
-        check(
-            "guard_sent",
-            &[tag!(r, guard_sent, 1)],
-            recv(r, 3, 0),
-            promise,
-        );
+        check("guard_sent", &[tag!(r, guard_sent, 1)], recv(r, 3, 0), promise);
         check("no promise sent", &[], question(12), set(64, 0));
-        check(
-            "promise_sent",
-            &[tag!(r, promise_sent, 3)],
-            question(12),
-            set(64, bit),
-        );
+        check("promise_sent", &[tag!(r, promise_sent, 3)], question(12), set(64, bit));
         check("no guard held", &[], recv(r, 4, 0), reply(0));
-        check(
-            "guard_held",
-            &[tag!(r, guard_held, 3)],
-            recv(r, 4, 0),
-            reply(1),
-        );
+        check("guard_held", &[tag!(r, guard_held, 3)], recv(r, 4, 0), reply(1));
         check("no promise held", &[], time_left, left(0));
-        check(
-            "promise_held",
-            &[tag!(r, promise_held, 3)],
-            time_left,
-            left(1),
-        );
+        check("promise_held", &[tag!(r, promise_held, 3)], time_left, left(1));
 
-        let sent = [
-            tag!(r, promise_sent, 2),
-            deadline!(r, promise_sent_at, NOW + 9),
-        ];
+        let sent = [tag!(r, promise_sent, 2), deadline!(r, promise_sent_at, NOW + 9)];
         let and = |write: Write| [&sent[..], &[write]].concat();
         let marks = lines(&[line(7, 0, id, 0, 0)]);
         check("not revoking", &sent, recv(r, 5, 1), marks);
-        check(
-            "revoking",
-            &and(tag!(r, revoking, 1)),
-            recv(r, 5, 1),
-            lines(&[]),
-        );
+        check("revoking", &and(tag!(r, revoking, 1)), recv(r, 5, 1), lines(&[]));
         check("no mark", &sent, question(10), set(64, 0));
-        check(
-            "refresh_mark",
-            &and(tag!(r, refresh_mark, 1)),
-            question(10),
-            set(64, bit),
-        );
+        check("refresh_mark", &and(tag!(r, refresh_mark, 1)), question(10), set(64, bit));
         check_record("revoking 2", &and(tag!(r, revoking, 2)), false);
 
         for (what, write) in [
@@ -363,81 +290,84 @@ fn deadlines_of_a_row_are_read() {
     }
 }
 
-// A step: the card, and what it changes in the record.
-type Step<'a> = (CallC, &'a dyn Fn(&mut ManagerC));
+// What set-up leaves.
+const FRESH: ManagerC = ManagerC {
+    me: ME as usize,
+    population: 64,
+    expire_timeout: T,
+    now: NOW,
+    quotient: 1.0,
+    ..ManagerC::BLANK
+};
 
 #[test]
-fn fields_are_written() {
+fn fields_of_the_record_are_written() {
     let mut lent = Lent::set_up(0xAA);
-    let mut want = ManagerC {
-        me: ME as usize,
-        population: 64,
-        expire_timeout: T,
-        now: NOW,
-        quotient: 1.0,
-        ..ManagerC::BLANK
-    };
+    let mut want = FRESH;
     assert_eq!(lent.manager(), want);
+
+    lent.call(clear_held(8));
+    want.active_num = 8;
+    assert_eq!(lent.manager(), want);
+
+    // Drift 25: 2T is 1.6 s.
+    lent.call(card(11, 0, 0, 1, 128 + 25, 0));
+    (want.drifting, want.quotient) = (1, 0.8);
+    assert_eq!(lent.manager(), want);
+
+    lent.call(question(9));
+    (want.quiet, want.quiet_until) = (1, NOW + 1_600_000_000);
+    assert_eq!(lent.manager(), want);
+
+    lent.call(advance(NOW + 2 * T));
+    (want.now, want.quiet, want.quiet_until) = (NOW + 2 * T, 0, 0);
+    assert_eq!(lent.manager(), want);
+
+    lent.call(question(11));
+    (want.drifting, want.quotient) = (0, 1.0);
+    assert_eq!(lent.manager(), want);
+}
+
+// What each card makes of the row of r: granted to and refreshed, then held from, then revoked.
+fn row_steps(r: usize) -> [(CallC, PeerC); 7] {
+    let mut rows = [ManagerC::BLANK.peers[r]; 7];
+    rows[0].guard_sent = 1;
+    (rows[1].promise_sent, rows[1].promise_sent_at) = (2, NOW + 2 * T);
+    rows[2] = rows[1];
+    (rows[2].refresh_mark, rows[2].promise_sent_at) = (1, NOW + T);
+    rows[3] = rows[2];
+    (rows[3].guard_held, rows[3].guard_held_at) = (2, NOW + T);
+    rows[4] = rows[2];
+    (rows[4].promise_held, rows[4].promise_held_at) = (2, NOW + T);
+    rows[5] = rows[4];
+    rows[5].revoking = 1;
+    rows[6].promise_sent = 3;
+    rows[6].promise_held = 3;
+    (rows[6].revoking, rows[6].refresh_mark) = (1, 1);
+    let cards = [
+        card(3, 0, 0, 64, 1 << r, 0),
+        recv(r, 3, 0),
+        recv(r, 5, 1),
+        recv(r, 1, 0),
+        recv(r, 4, 0),
+        card(4, 0, 0, 64, 1 << r, 0),
+        advance(NOW + T),
+    ];
+    std::array::from_fn(|i| (cards[i], rows[i]))
+}
+
+#[test]
+fn fields_of_a_row_are_written() {
     for r in ROWS {
-        let start = want.now;
-        let notice = |code, first| card(code, r as u64 + 1, 0, 64, first, 0);
-        let recv = |kind, first| card(6, r as u64 + 1, r as u64, kind, first, 0);
-        let steps: [Step; 12] = [
-            (notice(3, 1 << r), &|m| {
-                m.active_num = r as u64 + 1;
-                m.peers = ManagerC::BLANK.peers;
-                m.peers[r].guard_sent = 1;
-            }),
-            (recv(3, 0), &|m| {
-                m.peers[r].guard_sent = 0;
-                m.peers[r].promise_sent = 2;
-                m.peers[r].promise_sent_at = start + 2 * T;
-            }),
-            (recv(1, 0), &|m| {
-                m.peers[r].guard_held = 2;
-                m.peers[r].guard_held_at = start + T;
-            }),
-            (advance(start + 4), &|m| m.now = start + 4),
-            (recv(5, 1), &|m| {
-                m.peers[r].promise_sent_at = start + 4 + T;
-                m.peers[r].refresh_mark = 1;
-            }),
-            (recv(4, 0), &|m| {
-                m.peers[r].guard_held = 0;
-                m.peers[r].guard_held_at = 0;
-                m.peers[r].promise_held = 2;
-                m.peers[r].promise_held_at = start + 4 + T;
-            }),
-            (notice(4, 1 << r), &|m| m.peers[r].revoking = 1),
-            (question(10), &|m| m.peers[r].refresh_mark = 0),
-            (card(11, 0, 0, 1, 128 + 25, 0), &|m| {
-                m.drifting = 1;
-                m.quotient = 0.8;
-            }),
-            (question(9), &|m| {
-                m.quiet = 1;
-                m.quiet_until = start + 4 + 1_600_000_000;
-            }),
-            (advance(start + 2 * T), &|m| {
-                m.now = start + 2 * T;
-                m.quiet = 0;
-                m.quiet_until = 0;
-                for tag in [&mut m.peers[r].promise_sent, &mut m.peers[r].promise_held] {
-                    *tag = 3;
-                }
-                m.peers[r].promise_sent_at = 0;
-                m.peers[r].promise_held_at = 0;
-            }),
-            (question(11), &|m| {
-                m.drifting = 0;
-                m.quotient = 1.0;
-            }),
-        ];
-        for (i, (card, change)) in steps.into_iter().enumerate() {
+        let mut lent = Lent::set_up(0xAA);
+        for (i, (card, row)) in row_steps(r).into_iter().enumerate() {
             assert_eq!(lent.call(card).refused, 0, "row {r}, step {i}");
-            change(&mut want);
+            let mut want = FRESH;
+            want.now = lent.manager().now;
+            want.peers[r] = row;
             assert_eq!(lent.manager(), want, "row {r}, step {i}");
         }
+        assert_eq!(lent.manager().now, NOW + T);
     }
 }
 
@@ -447,32 +377,11 @@ fn fields_of_a_card_are_read() {
     check("set-up", &[], set_up, lines(&[]));
     for (what, card, number) in [
         ("code", CallC { code: 16, ..set_up }, 22),
-        (
-            "number",
-            CallC {
-                number: i64::MAX as u64 + 1,
-                ..set_up
-            },
-            5,
-        ),
+        ("number", CallC { number: i64::MAX as u64 + 1, ..set_up }, 5),
         ("peer", CallC { peer: 64, ..set_up }, 4),
         ("size", CallC { size: 65, ..set_up }, 3),
-        (
-            "first",
-            CallC {
-                first: 99_999_999,
-                ..set_up
-            },
-            1,
-        ),
-        (
-            "second",
-            CallC {
-                second: T / 2,
-                ..set_up
-            },
-            2,
-        ),
+        ("first", CallC { first: 99_999_999, ..set_up }, 1),
+        ("second", CallC { second: T / 2, ..set_up }, 2),
     ] {
         check(what, &[], card, refused(number));
     }
@@ -498,4 +407,42 @@ fn fields_of_an_answer_are_read() {
         deadline!(40, guard_held_at, due),
     ];
     check("two sets", &timers, advance(due), fired(1 << 2, 1 << 40));
+}
+
+#[test]
+fn refused_calls_keep_every_byte() {
+    let grants = |size| card(3, 9, 0, size, 0b11, 0);
+    for (what, card, number) in [
+        ("advance too far", advance(u64::MAX), 5),
+        ("advance back", advance(NOW - 1), 6),
+        ("an unknown peer", recv(64, 1, 0), 7),
+        ("the own id", recv(ME as usize, 1, 0), 8),
+        ("grants to a set", grants(63), 9),
+        ("grants to a set", grants(256), 9),
+        ("refresh of a set", card(10, 0, 0, 65, 0, 0), 12),
+        ("time left", card(15, 0, 300, 0, 0, 0), 7),
+        ("no call", question(16), 22),
+    ] {
+        check(what, &[word!(active_num, 3_u64)], card, refused(number));
+    }
+}
+
+#[test]
+fn any_bytes_have_an_answer() {
+    let mut random = 0x2545_F491_4F6C_DD1D_u64;
+    let mut lent = Lent::set_up(0);
+    for _ in 0..100 {
+        for byte in &mut lent.record {
+            random ^= random << 13;
+            random ^= random >> 7;
+            random ^= random << 17;
+            *byte = random as u8;
+        }
+        let before = lent.fields();
+        for code in 2..=16 {
+            let want = if code < 16 { 15 } else { 22 };
+            assert_eq!(lent.call(card(code, 0, 0, 1, 0, 0)), refused(want));
+            assert_eq!(lent.fields(), before);
+        }
+    }
 }
