@@ -1,0 +1,108 @@
+//! Lists of calls put to the proved lease manager (the library) and to the Rust that it follows (the
+//! oracle), both by the oracle's line protocol, see `oracle/README.md`.
+//!
+//! - `answer` reads calls on standard input and prints the library's answers. What the library
+//!   refuses is `refused k`.
+//! - `run` draws calls at random, puts them to both and compares every answer and state. Mode `wide`
+//!   keeps readings 2 ms away from deadlines, `near` 1 ns before and 1 ms after them, `whole` has all
+//!   times in whole ms and readings on the deadlines; `drift` and `bitmap` compare the leaves. It
+//!   stops at the first difference, prints the calls that lead to it, and fails.
+//! - `record` prints the calls that `run` would put to the oracle.
+//! - `sample` reads pairs of lines, a call and the oracle's answer with its state, and writes them in
+//!   the columns of `crates/rust_sample`:
+//!   `paste -d '\n' CALLS ANSWERS | sessions sample --cards FILE --answers FILE`.
+mod answer;
+mod call;
+mod events;
+mod generate;
+mod judge;
+mod leaf_runs;
+mod leaves;
+mod oracle;
+mod parse;
+mod random;
+mod sample;
+mod side;
+mod state;
+mod tally;
+mod text;
+mod walk;
+
+use generate::Mode;
+use std::process::ExitCode;
+
+const USAGE: &str = "\
+sessions answer [--state]
+sessions run --seed S --calls N [--mode wide|near|whole|drift|bitmap] --oracle PATH
+sessions record --seed S --calls N [--mode wide|near|whole]
+sessions sample --cards FILE --answers FILE";
+
+struct Arguments(Vec<String>);
+
+impl Arguments {
+    fn value(&self, name: &str) -> Option<&str> {
+        let at = self.0.iter().position(|word| word == name)?;
+        self.0.get(at + 1).map(String::as_str)
+    }
+
+    fn needed(&self, name: &str) -> Result<&str, String> {
+        self.value(name).ok_or(format!("{name} is missing\n{USAGE}"))
+    }
+
+    fn number(&self, name: &str) -> Result<u64, String> {
+        self.needed(name)?.parse().map_err(|_| format!("{name} takes a number\n{USAGE}"))
+    }
+
+    fn mode(&self) -> Result<(&str, Mode), String> {
+        let name = self.value("--mode").unwrap_or("wide");
+        match name {
+            "wide" => Ok((name, Mode::Wide)),
+            "near" => Ok((name, Mode::Near)),
+            "whole" => Ok((name, Mode::Whole)),
+            _ => Err(format!("no such mode: {name}\n{USAGE}")),
+        }
+    }
+}
+
+fn run(arguments: &Arguments) -> Result<(), String> {
+    let (seed, calls) = (arguments.number("--seed")?, arguments.number("--calls")?);
+    let path = arguments.needed("--oracle")?;
+    let done = match arguments.value("--mode") {
+        Some("drift") => leaf_runs::drift::run(seed, calls, path),
+        Some("bitmap") => leaf_runs::sets::run(seed, calls, path),
+        _ => {
+            let (name, mode) = arguments.mode()?;
+            walk::run(name, mode, seed, calls, path)
+        }
+    };
+    done.map_err(|error| error.to_string())
+}
+
+fn record(arguments: &Arguments) -> Result<(), String> {
+    let (seed, calls) = (arguments.number("--seed")?, arguments.number("--calls")?);
+    walk::record(arguments.mode()?.1, seed, calls).map_err(|error| error.to_string())
+}
+
+fn sample(arguments: &Arguments) -> Result<(), String> {
+    let (cards, answers) = (arguments.needed("--cards")?, arguments.needed("--answers")?);
+    sample::write(cards, answers).map_err(|error| error.to_string())
+}
+
+fn main() -> ExitCode {
+    let arguments = Arguments(std::env::args().skip(1).collect());
+    let done = match arguments.0.first().map(String::as_str) {
+        Some("answer") => side::answer_all(arguments.0.iter().any(|word| word == "--state"))
+            .map_err(|error| error.to_string()),
+        Some("run") => run(&arguments),
+        Some("record") => record(&arguments),
+        Some("sample") => sample(&arguments),
+        _ => Err(USAGE.to_string()),
+    };
+    match done {
+        Ok(()) => ExitCode::SUCCESS,
+        Err(message) => {
+            eprintln!("{message}");
+            ExitCode::FAILURE
+        }
+    }
+}
