@@ -134,11 +134,13 @@ fn has(peers: PeerSet, id: usize) -> bool {
     peers.is_none_or(|set| (id as u64) < set.size && set.bits >> id & 1 == 1)
 }
 
-impl Counts {
-    pub fn new() -> Counts {
+impl Default for Counts {
+    fn default() -> Counts {
         Counts([0; WORDS.len()])
     }
+}
 
+impl Counts {
     fn met(&mut self, event: Event) {
         self.0[event as usize] += 1;
     }

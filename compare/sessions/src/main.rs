@@ -7,12 +7,14 @@
 //!   keeps readings 2 ms away from deadlines, `near` 1 ns before and 1 ms after them, `whole` has all
 //!   times in whole ms and readings on the deadlines; `drift` and `bitmap` compare the leaves. It
 //!   stops at the first difference, prints the calls that lead to it, and fails.
-//! - `record` prints the calls that `run` would put to the oracle.
+//! - `record` prints the calls that `run` would put to the oracle; with `--few`, of few ids.
+//! - `choose` prints a short list of calls in which every event of `run` is met that many times.
 //! - `sample` reads pairs of lines, a call and the oracle's answer with its state, and writes them in
 //!   the columns of `crates/rust_sample`:
 //!   `paste -d '\n' CALLS ANSWERS | sessions sample --cards FILE --answers FILE`.
 mod answer;
 mod call;
+mod choose;
 mod events;
 mod generate;
 mod judge;
@@ -28,13 +30,14 @@ mod tally;
 mod text;
 mod walk;
 
-use generate::Mode;
+use generate::{Limits, Mode};
 use std::process::ExitCode;
 
 const USAGE: &str = "\
 sessions answer [--state]
 sessions run --seed S --calls N [--mode wide|near|whole|drift|bitmap] --oracle PATH
-sessions record --seed S --calls N [--mode wide|near|whole]
+sessions record --seed S --calls N [--mode wide|near|whole] [--few]
+sessions choose --seed S --times N
 sessions sample --cards FILE --answers FILE";
 
 struct Arguments(Vec<String>);
@@ -80,7 +83,14 @@ fn run(arguments: &Arguments) -> Result<(), String> {
 
 fn record(arguments: &Arguments) -> Result<(), String> {
     let (seed, calls) = (arguments.number("--seed")?, arguments.number("--calls")?);
-    walk::record(arguments.mode()?.1, seed, calls).map_err(|error| error.to_string())
+    let few = arguments.0.iter().any(|word| word == "--few");
+    let limits = if few { Limits::FEW } else { Limits::ALL };
+    walk::record(arguments.mode()?.1, seed, calls, limits).map_err(|error| error.to_string())
+}
+
+fn choose(arguments: &Arguments) -> Result<(), String> {
+    let (seed, times) = (arguments.number("--seed")?, arguments.number("--times")?);
+    choose::choose(seed, times).map_err(|error| error.to_string())
 }
 
 fn sample(arguments: &Arguments) -> Result<(), String> {
@@ -95,6 +105,7 @@ fn main() -> ExitCode {
             .map_err(|error| error.to_string()),
         Some("run") => run(&arguments),
         Some("record") => record(&arguments),
+        Some("choose") => choose(&arguments),
         Some("sample") => sample(&arguments),
         _ => Err(USAGE.to_string()),
     };

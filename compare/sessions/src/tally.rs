@@ -16,7 +16,7 @@ pub struct Tally {
     refused_by_both: u64,
     populations: [u64; 65],
     settings: [u64; 256],
-    events: Counts,
+    pub events: Counts,
 }
 
 // A title, and a number and some words on each line.
@@ -40,7 +40,7 @@ impl Tally {
             refused_by_both: 0,
             populations: [0; 65],
             settings: [0; 256],
-            events: Counts::new(),
+            events: Counts::default(),
         }
     }
 

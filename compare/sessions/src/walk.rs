@@ -2,7 +2,8 @@
 //! oracle.
 use crate::answer::spare_lines_are_zero;
 use crate::call::Call;
-use crate::generate::{Generator, Mode};
+use crate::events::Counts;
+use crate::generate::{Generator, Limits, Mode};
 use crate::judge::Judge;
 use crate::oracle::{Batch, Oracle};
 use crate::side::Side;
@@ -21,9 +22,9 @@ pub struct Walk {
 }
 
 impl Walk {
-    fn new(seed: u64, mode: Mode) -> Walk {
+    pub fn new(seed: u64, mode: Mode, limits: Limits) -> Walk {
         Walk {
-            generator: Generator::new(seed, mode),
+            generator: Generator::new(seed, mode, limits),
             judge: Judge::default(),
             side: Side::new(true),
             tally: Tally::new(),
@@ -86,13 +87,26 @@ impl Walk {
         }
         Ok(())
     }
+
+    /// How many ids the present session has.
+    pub fn population(&self) -> usize {
+        self.side.record.population
+    }
+
+    /// The calls of one more session that go to both sides, and how often each event was met in it.
+    pub fn one_session(&mut self) -> io::Result<(Vec<u8>, Counts)> {
+        self.tally = Tally::new();
+        self.session(u64::MAX)?;
+        let batch = std::mem::take(&mut self.batch);
+        Ok((batch.calls, std::mem::take(&mut self.tally.events)))
+    }
 }
 
 /// Runs random sessions on both sides and compares every answer and every state.
 pub fn run(name: &str, mode: Mode, seed: u64, calls: u64, path: &str) -> io::Result<()> {
     let begin = Instant::now();
     let mut oracle = Oracle::start(path, true)?;
-    let mut walk = Walk::new(seed, mode);
+    let mut walk = Walk::new(seed, mode, Limits::ALL);
     while walk.tally.compared < calls {
         walk.session(calls)?;
         if walk.batch.is_full() {
@@ -114,9 +128,9 @@ pub fn run(name: &str, mode: Mode, seed: u64, calls: u64, path: &str) -> io::Res
     Ok(())
 }
 
-/// Prints the calls that `run` would put to the oracle.
-pub fn record(mode: Mode, seed: u64, calls: u64) -> io::Result<()> {
-    let mut walk = Walk::new(seed, mode);
+/// Prints the calls that `run` would put to the oracle, were its sessions limited so.
+pub fn record(mode: Mode, seed: u64, calls: u64, limits: Limits) -> io::Result<()> {
+    let mut walk = Walk::new(seed, mode, limits);
     let mut out = io::stdout().lock();
     while walk.tally.compared < calls {
         walk.session(calls)?;

@@ -22,6 +22,20 @@ pub enum Mode {
     Whole,
 }
 
+/// How large a session may be: its population, and its calls beside the set-up.
+#[derive(Clone, Copy)]
+pub struct Limits {
+    pub population: u64,
+    pub length: u64,
+}
+
+impl Limits {
+    /// Document 01's populations.
+    pub const ALL: Limits = Limits { population: 64, length: 400 };
+    /// Few ids, so that the record is short to print.
+    pub const FEW: Limits = Limits { population: 5, length: 60 };
+}
+
 /// What the next call is.
 #[derive(Clone, Copy, PartialEq)]
 enum Kind {
@@ -86,6 +100,7 @@ struct Temper {
 pub struct Generator {
     random: Random,
     mode: Mode,
+    limits: Limits,
     temper: Temper,
     /// The present session's start, and the drift settings that it may have.
     start: u64,
@@ -120,25 +135,26 @@ impl Temper {
 }
 
 impl Generator {
-    pub fn new(seed: u64, mode: Mode) -> Generator {
+    pub fn new(seed: u64, mode: Mode, limits: Limits) -> Generator {
         let mut random = Random::new(seed);
         let temper = Temper::new(&mut random);
-        Generator { random, mode, temper, start: 0, settings: Vec::new() }
+        Generator { random, mode, limits, temper, start: 0, settings: Vec::new() }
     }
 
     /// How many calls the next session has beside its set-up.
     pub fn length(&mut self) -> u64 {
-        match self.random.below(10) {
+        let length = match self.random.below(10) {
             0..4 => self.random.between(5, 40),
             4..8 => self.random.between(40, 150),
             _ => self.random.between(150, 400),
-        }
+        };
+        length.min(self.limits.length)
     }
 
     /// The set-up of a new session.
     pub fn set_up(&mut self) -> SetUp {
         self.temper = Temper::new(&mut self.random);
-        let s = setup::accepted(&mut self.random, self.mode);
+        let s = setup::accepted(&mut self.random, self.mode, self.limits);
         self.start = s.start;
         self.settings = setup::settings(self.mode, s.expire_timeout);
         s
@@ -149,7 +165,7 @@ impl Generator {
         if !self.random.chance(60) {
             return None;
         }
-        let s = setup::accepted(&mut self.random, self.mode);
+        let s = setup::accepted(&mut self.random, self.mode, self.limits);
         Some(setup::refused_by_both(&mut self.random, s))
     }
 

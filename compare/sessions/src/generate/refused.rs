@@ -65,7 +65,7 @@ impl Generator {
             7 => self.refused_refresh(),
             8 => Call::Advance(self.refused_reading(m)),
             _ => {
-                let s = setup::accepted(&mut self.random, self.mode);
+                let s = setup::accepted(&mut self.random, self.mode, self.limits);
                 Call::SetUp(setup::refused(&mut self.random, s))
             }
         }

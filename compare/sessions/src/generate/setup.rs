@@ -1,5 +1,5 @@
 //! Set-ups, accepted and refused.
-use super::Mode;
+use super::{Limits, Mode};
 use crate::call::{LARGEST_READING, MS, SetUp};
 use crate::random::Random;
 
@@ -48,8 +48,8 @@ fn start(random: &mut Random) -> u64 {
     }
 }
 
-pub fn accepted(random: &mut Random, mode: Mode) -> SetUp {
-    let population = population(random);
+pub fn accepted(random: &mut Random, mode: Mode, limits: Limits) -> SetUp {
+    let population = population(random).min(limits.population);
     let expire_timeout = timeout(random, mode);
     let most = (expire_timeout - 1) / 2;
     let heartbeat = match random.below(4) {
