@@ -8,12 +8,15 @@
 //     held  0 none; guard 5 unarmed, 1 armed, 2 exploded; promise 6 unarmed, 3 armed, 4 exploded
 use biasflint::call;
 use host_cards::CallC;
+use host_flat::flat_record;
 use host_lines::AnswerC;
 use host_lines::LineC;
 use host_record::ManagerC;
 use host_record::PeerC;
 use sample_columns::read_card;
 use sample_columns::write_line;
+use setup::new_and_setup;
+use timer::Reading;
 
 // More calls than the file has.
 const TURNS: u64 = 1_000_000;
@@ -161,33 +164,11 @@ fn run_turn(before: ManagerC) -> Turn {
     }
 }
 
-// Nothing that any call but set-up takes.
+// The record of a refused set-up, which no call but set-up takes.
 fn blank() -> ManagerC {
-    let row = PeerC {
-        guard_sent: 0,
-        promise_sent: 0,
-        guard_held: 0,
-        promise_held: 0,
-        revoking: 0,
-        refresh_mark: 0,
-        guard_sent_at: 0,
-        promise_sent_at: 0,
-        guard_held_at: 0,
-        promise_held_at: 0,
-    };
-    let peers = [row; 64];
-    ManagerC {
-        me: 0,
-        population: 0,
-        expire_timeout: 0,
-        now: 0,
-        active_num: 0,
-        quotient: 1.0,
-        quiet_until: 0,
-        drifting: 0,
-        quiet: 0,
-        peers,
-    }
+    let refused = new_and_setup(0, 0, 0, 0, Reading(0));
+    let manager = refused.manager;
+    flat_record(manager)
 }
 
 fn main() {
