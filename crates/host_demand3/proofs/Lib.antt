@@ -1,0 +1,2 @@
+pub mod OneCall
+pub mod HostDemand3
