@@ -108,8 +108,8 @@ pub struct Generator {
 }
 
 impl Temper {
-    // Each weight is the usual one, up to 16 times: some kinds are then rare in this session and
-    // others frequent.
+    // Each weight is the usual one, up to 16 times: so a session has some kinds rarely and others
+    // often.
     fn new(random: &mut Random) -> Temper {
         let weights = KINDS.map(|(_, usual)| usual * random.between(1, 16));
         Temper {
