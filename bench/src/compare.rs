@@ -6,6 +6,7 @@ use biasflint::{Bar, Bitmap, DriftSetting, LeaseMsg, LeaseNotice, LeaseNum, Read
 
 use crate::arrays::{Clock, Manager, Row, Timer};
 use crate::calls::{Call, Plain, Raw, SetUp, Side, Typed};
+use crate::random::Random;
 
 const SESSION: usize = 500;
 
@@ -20,7 +21,7 @@ pub struct Seen {
 
 /// Compares that many calls, in sessions from set-ups of their own. Panics where two sides differ.
 pub fn random_calls(count: usize) -> Seen {
-    let (mut random, mut seen) = (Random(0x9e37_79b9_7f4a_7c15), Seen::default());
+    let (mut random, mut seen) = (Random::new(1), Seen::default());
     while seen.calls < count {
         session(&mut random, &mut seen);
     }
@@ -100,21 +101,7 @@ fn flat_timer(timer: Option<Timer>) -> (u8, u64) {
 
 // ---- random calls
 
-/// Marsaglia's xorshift.
-struct Random(u64);
-
 impl Random {
-    fn next(&mut self) -> u64 {
-        self.0 ^= self.0 << 13;
-        self.0 ^= self.0 >> 7;
-        self.0 ^= self.0 << 17;
-        self.0
-    }
-
-    fn below(&mut self, n: u64) -> u64 {
-        self.next() % n
-    }
-
     fn one_in(&mut self, n: u64) -> bool {
         self.below(n) == 0
     }
@@ -151,7 +138,7 @@ impl Random {
         let edge = m.quiet_until.map(Timer::Armed).filter(|_| self.one_in(2)).or(deadline);
         Reading(match (self.below(30), edge) {
             (0, _) => m.now.wrapping_sub(1),
-            (1, _) => self.next(),
+            (1, _) => self.any(),
             (2..5, _) => m.now + self.below(3 * m.expire_timeout),
             (5..10, Some(Timer::Armed(deadline))) => deadline - self.below(2),
             _ => m.now + self.below(m.expire_timeout / 8),
@@ -159,7 +146,7 @@ impl Random {
     }
 
     fn drift(&mut self) -> DriftSetting {
-        if self.one_in(3) { DriftSetting::True } else { DriftSetting::Drifting(self.next() as i8) }
+        if self.one_in(3) { DriftSetting::True } else { DriftSetting::Drifting(self.any() as i8) }
     }
 
     /// Mostly the active number.
@@ -184,13 +171,13 @@ impl Random {
     fn set(&mut self, m: &Manager) -> Option<Bitmap> {
         match self.below(12) {
             0..6 => None,
-            6 => Some(Bitmap::from_bits(self.below(300) as usize, self.next())),
-            _ => Some(Bitmap::from_bits(m.population, self.next())),
+            6 => Some(Bitmap::from_bits(self.below(300) as usize, self.any())),
+            _ => Some(Bitmap::from_bits(m.population, self.any())),
         }
     }
 
     fn bar(&mut self) -> Option<Bar> {
-        let bar = Bar(self.next());
+        let bar = Bar(self.any());
         self.one_in(2).then_some(bar)
     }
 

@@ -1,6 +1,12 @@
 // Compares the crate drift, through drift_c, with Rust's `Duration::mul_f64` under the rules of
 // src/utils/faults.rs, bit for bit. Prints how many cases each part has and how many differ, and
 // fails if one does. An argument sets how many random cases each part has.
+// The generator of compare/sessions.
+#[path = "../sessions/src/random.rs"]
+#[allow(dead_code)]
+mod random;
+
+use random::Random;
 use std::time::Duration;
 
 #[repr(C)]
@@ -117,25 +123,12 @@ fn compare_by(part: &mut Part, q: f64, ns: u64) {
     });
 }
 
-struct Random(u64);
-
 impl Random {
-    fn next(&mut self) -> u64 {
-        self.0 ^= self.0 << 13;
-        self.0 ^= self.0 >> 7;
-        self.0 ^= self.0 << 17;
-        self.0
-    }
-
-    fn below(&mut self, n: u64) -> u64 {
-        self.next() % n
-    }
-
     // Any bit pattern, one between 2^-63 and 2^36, a whole number of half ns, a short binary
     // fraction (where ties are), or close to a setting's quotient.
     fn float(&mut self) -> f64 {
         match self.below(5) {
-            0 => f64::from_bits(self.next()),
+            0 => f64::from_bits(self.any()),
             1 => f64::from_bits(((960 + self.below(100)) << 52) | self.below(1 << 52)),
             2 => self.below(4_000_000_000_000) as f64 / 2e9,
             3 => self.below(1 << 30) as f64 / (1u64 << (10 + self.below(20))) as f64,
@@ -209,7 +202,7 @@ fn clocks(random: &mut Random, rounds: u64) -> u64 {
     }
     for _ in 0..rounds {
         let (q, bits) = (random.float(), random.below(64));
-        let ns = random.next() >> bits;
+        let ns = random.any() >> bits;
         compare_by(&mut by, q, ns);
         let got = drift_true(ns);
         let zeros = (got.seconds.to_bits() | got.quotient.to_bits() | got.product.to_bits()) == 0;
@@ -241,7 +234,7 @@ fn main() {
     let rounds = std::env::args()
         .nth(1)
         .map_or(10_000_000, |n| n.parse().expect("a number of random cases"));
-    let mut random = Random(88_172_645_463_325_252);
+    let mut random = Random::new(1);
     let differ =
         settings(&mut random, rounds) + clocks(&mut random, rounds) + floats(&mut random, rounds);
     std::process::exit(i32::from(differ > 0));
