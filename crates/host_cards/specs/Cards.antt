@@ -16,13 +16,10 @@ use Rattle.lease.specs.declared.LeaseNotice.{LeaseNotice}
 use Rattle.lease.specs.declared.LeaseNotice.the-variants as N
 use Rattle.lease.specs.declared.DriftSetting.{DriftSetting}
 use Rattle.lease.specs.declared.DriftSetting.the-variants as D
+use Rattle.host_record.specs.Managers.{isFlag}
 use Rattle.host_cards.specs.declared.CallC.{CallC}
 
 -- ---- which cards are calls
-
--- A flag is 0 or 1.
-abbrev pub isFlag : ℕ → Bool
-isFlag n = leb n 1
 
 -- A message's kind is 1 to 7; those of PromiseReply and RevokeReply, 5 and 7, have a flag in first.
 abbrev pub isMsg : CallC → Bool

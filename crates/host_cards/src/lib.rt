@@ -11,7 +11,8 @@ ghost use mathlib.Core.Path.{_≡_};
 ghost use Prim.Native.Nat.{min};
 ghost use lib.Dec.{eqb};
 ghost use Rattle.lease.specs.Limits.{within};
-ghost use Rattle.host_cards.specs.Cards.{isFlag, isMsg, isPercent, isDrift, isCall, peerSetOf, acceptBarOf, msgOf, leaseNoticeOf, percentOf, driftSettingOf};
+ghost use Rattle.host_record.specs.Managers.{isFlag};
+ghost use Rattle.host_cards.specs.Cards.{isMsg, isPercent, isDrift, isCall, peerSetOf, acceptBarOf, msgOf, leaseNoticeOf, percentOf, driftSettingOf};
 
 // A call. What the other fields are goes by the code; those that a code does not name are not looked at.
 #[repr(C)]
@@ -36,7 +37,7 @@ fn is_up_to(x: u64, high: u64) -> bool
 fn is_flag(n: u64) -> bool
     ensures { λ r. ⌜ r ≡ isFlag n ⌝ }
 {
-    n <= 1
+    n < 2
 }
 
 // A message's kind is 1 to 7; those of the replies that have held, 5 and 7, have it in first.

@@ -1,7 +1,6 @@
 -- An answer as the record that crosses to C: 0 or the number of its refusal, and at most three lines of plain numbers. A field that a
 -- line does not use is 0. Definitions only.
 use Prim.Native.Nat.{ℕ}
-use mathlib.Core.Bool.{Bool, cond}
 use Rattle.bitmap.specs.declared.Bitmap.{Bitmap}
 use Rattle.bitmap.specs.Bitmaps as bitmaps
 use Rattle.lease.specs.declared.AcceptBar.{AcceptBar}
@@ -31,6 +30,7 @@ use Rattle.lease.specs.declared.CountOutcome.{CountOutcome}
 use Rattle.lease.specs.declared.CountOutcome.the-variants as CO
 use Rattle.lease.specs.declared.TimeLeftOutcome.{TimeLeftOutcome}
 use Rattle.lease.specs.declared.TimeLeftOutcome.the-variants as TO
+use Rattle.host_record.specs.Flat.{flag}
 use Rattle.host_lines.specs.declared.LineC.{LineC}
 use Rattle.host_lines.specs.declared.AnswerC.{AnswerC}
 
@@ -42,10 +42,6 @@ lineC code num peer first second = record { code = code; number = num; peer = pe
 
 abbrev pub noLine : LineC
 noLine = lineC 0 0 0 0 0
-
--- A bool as a number.
-abbrev pub flag : Bool → ℕ
-flag b = cond b 1 0
 
 -- A message to one peer. The rules send no Guard and no Revoke to one peer: code 0.
 abbrev pub sendLine : ℕ → ℕ → LeaseMsg → LineC

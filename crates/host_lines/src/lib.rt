@@ -17,7 +17,8 @@ use lease::SetUpOutcome;
 use lease::TimeLeft;
 use lease::TimeLeftOutcome;
 ghost use mathlib.Core.Path.{_≡_};
-ghost use Rattle.host_lines.specs.Lines.{flag, lineC, noLine, sendLine, guardLine, bcastLine, actionLine, lineOf, firedLine, setLine, countLine, timeLeftLine, accepted, refusedAnswer, noLines, oneLine, twoLines, linesAnswer, noticeAnswer, firedAnswer, advanceAnswer, plainAnswer, setupAnswer, setAnswer, countAnswer, timeLeftAnswer};
+ghost use Rattle.host_record.specs.Flat.{flag};
+ghost use Rattle.host_lines.specs.Lines.{lineC, noLine, sendLine, guardLine, bcastLine, actionLine, lineOf, firedLine, setLine, countLine, timeLeftLine, accepted, refusedAnswer, noLines, oneLine, twoLines, linesAnswer, noticeAnswer, firedAnswer, advanceAnswer, plainAnswer, setupAnswer, setAnswer, countAnswer, timeLeftAnswer};
 
 // One line. What first and second are, and whether peer is an id, a size or a flag, goes by the code.
 #[repr(C)]

@@ -20,6 +20,7 @@ use Rattle.lease.specs.declared.Manager.{Manager}
 use Rattle.host_record.specs.declared.PeerC.{PeerC}
 use Rattle.host_record.specs.declared.ManagerC.{ManagerC}
 
+-- A bool as a number.
 abbrev pub flag : Bool → ℕ
 flag true = 1
 flag false = 0

@@ -66,6 +66,7 @@ managerOf f =
 abbrev pub isEntry : ℕ → ℕ → Bool
 isEntry tag at = cond (eqb tag 2) true (cond (ltb tag 4) (eqb at 0) false)
 
+-- A flag is 0 or 1.
 abbrev pub isFlag : ℕ → Bool
 isFlag n = ltb n 2
 

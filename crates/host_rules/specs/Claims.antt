@@ -2,14 +2,9 @@
 use mathlib.Core.Path.{_≡_}
 use mathlib.Core.Bool.{false}
 use lib.Dec.{eqb}
-use Rattle.lease.specs.declared.Manager.{Manager}
-use Rattle.lease.specs.Rules.{noticeOf, advanceOf}
 use Rattle.host_record.specs.declared.ManagerC.{ManagerC}
-use Rattle.host_record.specs.Flat.{flatOf}
-use Rattle.host_lines.specs.Lines.{noticeAnswer, advanceAnswer}
 use Rattle.host_cards.specs.declared.CallC.{CallC}
-use Rattle.host_cards.specs.Cards.{leaseNoticeOf}
-use Rattle.host_rules.specs.Calls.{noticeC, advanceC, callOf}
+use Rattle.host_rules.specs.Calls.{callOf}
 
 -- A refused call leaves every field of the record that was lent.
 abbrev pub RefusedKeeps : Type 0
