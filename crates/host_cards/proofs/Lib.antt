@@ -1,1 +1,2 @@
+-- Laws of a drift setting's percent.
 pub mod Percent

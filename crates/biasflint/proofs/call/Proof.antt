@@ -1,3 +1,4 @@
+-- `biasflint::call` meets its contract. Assumes nothing.
 use borrow.Author.Tests.{eq-eqb, ne-eqb, not-true, not-false}
 use borrow.Author.Needs.{needs}
 use Rattle.host_rules.specs.Calls.{callOf}

@@ -1,3 +1,4 @@
+-- `biasflint::outer_c` meets its contract. Assumes nothing.
 use borrow.Author.Tests.{eq-eqb, ne-eqb}
 use borrow.Author.Needs.{needs}
 use Rattle.host_rules.specs.Calls.{outerC}

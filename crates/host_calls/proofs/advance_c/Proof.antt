@@ -1,3 +1,4 @@
+-- `host_calls::advance_c` meets its contract. Assumes nothing.
 use borrow.Author.Needs.{needs}
 use Rattle.host_rules.specs.Calls.{advanceC}
 use Rattle.host_calls.proofs.advance_c.Statement.{statement}

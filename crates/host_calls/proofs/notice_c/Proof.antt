@@ -1,3 +1,4 @@
+-- `host_calls::notice_c` meets its contract. Assumes nothing.
 use borrow.Author.Needs.{needs}
 use Rattle.host_rules.specs.Calls.{noticeC}
 use Rattle.host_calls.proofs.notice_c.Statement.{statement}

@@ -1,3 +1,4 @@
+-- `host_calls::setup_c` meets its contract. Assumes nothing.
 use borrow.Author.Needs.{needs}
 use Rattle.host_rules.specs.Calls.{setupC}
 use Rattle.host_calls.proofs.setup_c.Statement.{statement}

@@ -1,3 +1,4 @@
+-- `host_cards::accept_bar_of` meets its contract. Assumes nothing.
 use borrow.Author.Tests.{eq-eqb, ne-eqb}
 use Rattle.host_cards.specs.Cards.{acceptBarOf}
 use Rattle.host_cards.proofs.accept_bar_of.Statement.{statement}

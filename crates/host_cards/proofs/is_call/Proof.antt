@@ -1,3 +1,4 @@
+-- `host_cards::is_call` meets its contract. Assumes nothing.
 use borrow.Author.Tests.{eq-eqb, ne-eqb}
 use borrow.Author.Needs.{needs}
 use Rattle.host_cards.specs.Cards.{isCall}

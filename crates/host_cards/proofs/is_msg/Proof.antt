@@ -1,3 +1,4 @@
+-- `host_cards::is_msg` meets its contract. Assumes nothing.
 use borrow.Author.Tests.{eq-eqb, ne-eqb}
 use borrow.Author.Needs.{needs}
 use Rattle.host_cards.proofs.is_msg.Statement.{statement}

@@ -1,3 +1,4 @@
+-- `host_cards::is_up_to` meets its contract. Assumes nothing.
 use borrow.Author.Tests.{le-leb, le-ltb, lt-leb, lt-ltb}
 use Rattle.host_cards.proofs.is_up_to.Statement.{statement}
 use Rattle.host_cards.proofs.is_up_to.Tie as tie

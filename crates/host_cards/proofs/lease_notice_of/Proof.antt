@@ -1,3 +1,4 @@
+-- `host_cards::lease_notice_of` meets its contract. Assumes nothing.
 use borrow.Author.Tests.{ne-eqb}
 use borrow.Author.Needs.{needs}
 use Rattle.host_cards.specs.Cards.{leaseNoticeOf}

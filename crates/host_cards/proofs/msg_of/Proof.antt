@@ -1,3 +1,4 @@
+-- `host_cards::msg_of` meets its contract. Assumes nothing.
 use borrow.Author.Tests.{ne-eqb}
 use Rattle.host_cards.specs.Cards.{msgOf}
 use Rattle.host_cards.proofs.msg_of.Statement.{statement}

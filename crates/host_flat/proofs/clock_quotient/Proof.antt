@@ -1,3 +1,4 @@
+-- `host_flat::clock_quotient` meets its contract. Assumes nothing.
 use borrow.Author.Needs.{needs}
 use mathlib.Core.Path.{refl}
 use lib.Ieee.{ofBits, ofInt, div}

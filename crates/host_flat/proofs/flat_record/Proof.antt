@@ -1,3 +1,4 @@
+-- `host_flat::flat_record` meets its contract. Assumes nothing.
 use borrow.Author.Needs.{needs}
 use Rattle.host_record.specs.Flat.{flatOf}
 use Rattle.host_flat.proofs.flat_record.Statement.{statement}

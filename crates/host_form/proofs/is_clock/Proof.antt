@@ -1,3 +1,4 @@
+-- `host_form::is_clock` meets its contract. Assumes nothing.
 use borrow.Author.Tests.{eq-eqb, ne-eqb}
 use borrow.Author.Needs.{needs}
 use mathlib.Core.Path.{refl}

@@ -1,3 +1,4 @@
+-- `host_form::is_entry` meets its contract. Assumes nothing.
 use borrow.Author.Tests.{eq-eqb, ne-eqb}
 use borrow.Author.Tests.{le-leb, le-ltb, lt-leb, lt-ltb}
 use Rattle.host_form.proofs.is_entry.Statement.{statement}

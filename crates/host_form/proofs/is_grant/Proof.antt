@@ -1,3 +1,4 @@
+-- `host_form::is_grant` meets its contract. Assumes nothing.
 use borrow.Author.Needs.{needs}
 use Rattle.host_form.proofs.is_grant.Statement.{statement}
 use Rattle.host_form.proofs.is_grant.Tie as tie

@@ -1,3 +1,4 @@
+-- `host_form::is_record` meets its contract. Assumes nothing.
 use borrow.Author.Needs.{needs}
 use Rattle.host_record.specs.Managers.{isRecord}
 use Rattle.host_form.proofs.is_record.Statement.{statement}

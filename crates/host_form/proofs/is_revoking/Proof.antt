@@ -1,3 +1,4 @@
+-- `host_form::is_revoking` meets its contract. Assumes nothing.
 use borrow.Author.Tests.{eq-eqb, ne-eqb}
 use borrow.Author.Needs.{needs}
 use Rattle.host_form.proofs.is_revoking.Statement.{statement}

@@ -1,3 +1,4 @@
+-- `host_lines::action_line` meets its contract. Assumes nothing.
 use borrow.Author.Needs.{needs}
 use Rattle.host_lines.proofs.action_line.Statement.{statement}
 use Rattle.host_lines.proofs.action_line.Tie as tie

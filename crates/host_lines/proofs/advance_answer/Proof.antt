@@ -1,3 +1,4 @@
+-- `host_lines::advance_answer` meets its contract. Assumes nothing.
 use borrow.Author.Needs.{needs}
 use Rattle.host_lines.specs.Lines.{advanceAnswer}
 use Rattle.host_lines.proofs.advance_answer.Statement.{statement}

@@ -1,3 +1,4 @@
+-- `host_lines::bcast_line` meets its contract. Assumes nothing.
 use borrow.Author.Needs.{needs}
 use Rattle.host_lines.proofs.bcast_line.Statement.{statement}
 use Rattle.host_lines.proofs.bcast_line.Tie as tie

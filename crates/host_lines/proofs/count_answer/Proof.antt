@@ -1,3 +1,4 @@
+-- `host_lines::count_answer` meets its contract. Assumes nothing.
 use borrow.Author.Needs.{needs}
 use Rattle.host_lines.specs.Lines.{countAnswer}
 use Rattle.host_lines.proofs.count_answer.Statement.{statement}

@@ -1,3 +1,4 @@
+-- `host_lines::fired_answer` meets its contract. Assumes nothing.
 use borrow.Author.Needs.{needs}
 use Rattle.host_lines.specs.Lines.{firedAnswer}
 use Rattle.host_lines.proofs.fired_answer.Statement.{statement}

@@ -1,3 +1,4 @@
+-- `host_lines::guard_line` meets its contract. Assumes nothing.
 use borrow.Author.Needs.{needs}
 use Rattle.host_lines.proofs.guard_line.Statement.{statement}
 use Rattle.host_lines.proofs.guard_line.Tie as tie

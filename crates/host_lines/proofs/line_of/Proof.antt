@@ -1,3 +1,4 @@
+-- `host_lines::line_of` meets its contract. Assumes nothing.
 use borrow.Author.Needs.{needs}
 use Rattle.host_lines.specs.Lines.{lineOf}
 use Rattle.host_lines.proofs.line_of.Statement.{statement}

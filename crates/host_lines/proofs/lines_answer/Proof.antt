@@ -1,3 +1,4 @@
+-- `host_lines::lines_answer` meets its contract. Assumes nothing.
 use borrow.Author.Needs.{needs}
 use Rattle.host_lines.specs.Lines.{linesAnswer}
 use Rattle.host_lines.proofs.lines_answer.Statement.{statement}

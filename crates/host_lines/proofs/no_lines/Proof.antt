@@ -1,3 +1,4 @@
+-- `host_lines::no_lines` meets its contract. Assumes nothing.
 use borrow.Author.Needs.{needs}
 use Rattle.host_lines.specs.Lines.{noLines}
 use Rattle.host_lines.proofs.no_lines.Statement.{statement}

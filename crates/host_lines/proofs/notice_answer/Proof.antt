@@ -1,3 +1,4 @@
+-- `host_lines::notice_answer` meets its contract. Assumes nothing.
 use borrow.Author.Needs.{needs}
 use Rattle.host_lines.specs.Lines.{noticeAnswer}
 use Rattle.host_lines.proofs.notice_answer.Statement.{statement}

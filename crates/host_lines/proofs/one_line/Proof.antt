@@ -1,3 +1,4 @@
+-- `host_lines::one_line` meets its contract. Assumes nothing.
 use borrow.Author.Needs.{needs}
 use Rattle.host_lines.specs.Lines.{oneLine}
 use Rattle.host_lines.proofs.one_line.Statement.{statement}

@@ -1,3 +1,4 @@
+-- `host_lines::plain_answer` meets its contract. Assumes nothing.
 use borrow.Author.Needs.{needs}
 use Rattle.host_lines.specs.Lines.{plainAnswer}
 use Rattle.host_lines.proofs.plain_answer.Statement.{statement}

@@ -1,3 +1,4 @@
+-- `host_lines::refused_answer` meets its contract. Assumes nothing.
 use borrow.Author.Needs.{needs}
 use Rattle.host_lines.specs.Lines.{refusedAnswer}
 use Rattle.host_lines.proofs.refused_answer.Statement.{statement}

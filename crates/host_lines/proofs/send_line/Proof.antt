@@ -1,3 +1,4 @@
+-- `host_lines::send_line` meets its contract. Assumes nothing.
 use borrow.Author.Needs.{needs}
 use Rattle.host_lines.proofs.send_line.Statement.{statement}
 use Rattle.host_lines.proofs.send_line.Tie as tie

@@ -1,3 +1,4 @@
+-- `host_lines::set_answer` meets its contract. Assumes nothing.
 use borrow.Author.Needs.{needs}
 use Rattle.host_lines.specs.Lines.{setAnswer}
 use Rattle.host_lines.proofs.set_answer.Statement.{statement}

@@ -1,3 +1,4 @@
+-- `host_lines::setup_answer` meets its contract. Assumes nothing.
 use borrow.Author.Needs.{needs}
 use Rattle.host_lines.specs.Lines.{setupAnswer}
 use Rattle.host_lines.proofs.setup_answer.Statement.{statement}

@@ -1,3 +1,4 @@
+-- `host_lines::time_left_answer` meets its contract. Assumes nothing.
 use borrow.Author.Needs.{needs}
 use Rattle.host_lines.specs.Lines.{timeLeftAnswer}
 use Rattle.host_lines.proofs.time_left_answer.Statement.{statement}

@@ -1,3 +1,4 @@
+-- `host_lines::time_left_line` meets its contract. Assumes nothing.
 use borrow.Author.Needs.{needs}
 use Rattle.host_lines.proofs.time_left_line.Statement.{statement}
 use Rattle.host_lines.proofs.time_left_line.Tie as tie

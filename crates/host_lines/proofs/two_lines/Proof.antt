@@ -1,3 +1,4 @@
+-- `host_lines::two_lines` meets its contract. Assumes nothing.
 use borrow.Author.Needs.{needs}
 use Rattle.host_lines.specs.Lines.{twoLines}
 use Rattle.host_lines.proofs.two_lines.Statement.{statement}

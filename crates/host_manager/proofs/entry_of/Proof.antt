@@ -1,3 +1,4 @@
+-- `host_manager::entry_of` meets its contract. Assumes nothing.
 use borrow.Author.Tests.{eq-eqb, ne-eqb}
 use borrow.Author.Needs.{needs}
 use Rattle.host_manager.proofs.entry_of.Statement.{statement}

@@ -1,3 +1,4 @@
+-- `host_manager::grant_of` meets its contract. Assumes nothing.
 use borrow.Author.Tests.{eq-eqb, ne-eqb}
 use borrow.Author.Needs.{needs}
 use Rattle.host_manager.proofs.grant_of.Statement.{statement}

@@ -1,3 +1,4 @@
+-- `host_manager::manager_of` meets its contract. Assumes nothing.
 use borrow.Author.Needs.{needs}
 use Rattle.host_record.specs.Managers.{managerOf}
 use Rattle.host_manager.proofs.manager_of.Statement.{statement}

@@ -1,3 +1,4 @@
+-- `host_manager::quiet_timer_of` meets its contract. Assumes nothing.
 use borrow.Author.Tests.{eq-eqb, ne-eqb}
 use Rattle.host_manager.proofs.quiet_timer_of.Statement.{statement}
 use Rattle.host_manager.proofs.quiet_timer_of.Tie as tie

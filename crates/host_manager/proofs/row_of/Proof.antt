@@ -1,3 +1,4 @@
+-- `host_manager::row_of` meets its contract. Assumes nothing.
 use borrow.Author.Needs.{needs}
 use Rattle.host_record.specs.Managers.{rowOf}
 use Rattle.host_manager.proofs.row_of.Statement.{statement}

@@ -1,3 +1,4 @@
+-- `host_manager::timer_of` meets its contract. Assumes nothing.
 use borrow.Author.Tests.{eq-eqb, ne-eqb}
 use Rattle.host_manager.proofs.timer_of.Statement.{statement}
 use Rattle.host_manager.proofs.timer_of.Tie as tie

@@ -1,3 +1,4 @@
+-- `host_outer_calls::drift_c` meets its contract. Assumes nothing.
 use borrow.Author.Needs.{needs}
 use Rattle.host_rules.specs.Calls.{driftC}
 use Rattle.host_outer_calls.proofs.drift_c.Statement.{statement}

@@ -1,3 +1,4 @@
+-- `host_outer_calls::quiet_c` meets its contract. Assumes nothing.
 use borrow.Author.Needs.{needs}
 use Rattle.host_rules.specs.Calls.{quietC}
 use Rattle.host_outer_calls.proofs.quiet_c.Statement.{statement}

@@ -1,3 +1,4 @@
+-- `host_outer_calls::refresh_c` meets its contract. Assumes nothing.
 use borrow.Author.Needs.{needs}
 use Rattle.host_rules.specs.Calls.{refreshC}
 use Rattle.host_outer_calls.proofs.refresh_c.Statement.{statement}

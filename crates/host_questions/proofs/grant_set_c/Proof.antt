@@ -1,3 +1,4 @@
+-- `host_questions::grant_set_c` meets its contract. Assumes nothing.
 use borrow.Author.Needs.{needs}
 use Rattle.host_rules.specs.Calls.{grantSetC}
 use Rattle.host_questions.proofs.grant_set_c.Statement.{statement}

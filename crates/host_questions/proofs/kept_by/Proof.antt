@@ -1,3 +1,4 @@
+-- `host_questions::kept_by` meets its contract. Assumes nothing.
 use mathlib.Core.Path.{refl}
 use Rattle.host_rules.specs.Calls.{kept}
 use Rattle.host_questions.proofs.kept_by.Statement.{statement}

@@ -1,3 +1,4 @@
+-- `host_questions::lease_cnt_c` meets its contract. Assumes nothing.
 use borrow.Author.Needs.{needs}
 use Rattle.host_rules.specs.Calls.{leaseCntC}
 use Rattle.host_questions.proofs.lease_cnt_c.Statement.{statement}

@@ -1,3 +1,4 @@
+-- `host_questions::lease_set_c` meets its contract. Assumes nothing.
 use borrow.Author.Needs.{needs}
 use Rattle.host_rules.specs.Calls.{leaseSetC}
 use Rattle.host_questions.proofs.lease_set_c.Statement.{statement}

@@ -1,3 +1,4 @@
+-- `host_questions::question_c` meets its contract. Assumes nothing.
 use borrow.Author.Tests.{eq-eqb, ne-eqb}
 use borrow.Author.Needs.{needs}
 use Rattle.host_rules.specs.Calls.{questionC}

@@ -1,3 +1,4 @@
+-- `host_questions::time_left_c` meets its contract. Assumes nothing.
 use borrow.Author.Needs.{needs}
 use Rattle.host_rules.specs.Calls.{timeLeftC}
 use Rattle.host_questions.proofs.time_left_c.Statement.{statement}
