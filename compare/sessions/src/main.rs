@@ -12,8 +12,12 @@
 //! - `sample` reads pairs of lines, a call and the oracle's answer with its state, and writes them in
 //!   the columns of `crates/rust_sample`:
 //!   `paste -d '\n' CALLS ANSWERS | sessions sample --cards FILE --answers FILE`.
+//! - `cards` draws sessions at random as event cards, puts them to the program `replay` and compares
+//!   the lines that it prints with the oracle's answers.
+//! - `expect` reads event cards and prints what `replay` should print, by the oracle's answers.
 mod answer;
 mod call;
+mod cards;
 mod choose;
 mod events;
 mod generate;
@@ -38,7 +42,9 @@ sessions answer [--state]
 sessions run --seed S --calls N [--mode wide|near|whole|drift|bitmap] --oracle PATH
 sessions record --seed S --calls N [--mode wide|near|whole] [--few]
 sessions choose --seed S --times N
-sessions sample --cards FILE --answers FILE";
+sessions sample --cards FILE --answers FILE
+sessions cards --seed S --cards N [--mode wide|near|whole] --oracle PATH --replay PATH
+sessions expect --oracle PATH";
 
 struct Arguments(Vec<String>);
 
@@ -98,6 +104,13 @@ fn sample(arguments: &Arguments) -> Result<(), String> {
     sample::write(cards, answers).map_err(|error| error.to_string())
 }
 
+fn cards(arguments: &Arguments) -> Result<(), String> {
+    let (seed, least) = (arguments.number("--seed")?, arguments.number("--cards")?);
+    let (oracle, replay) = (arguments.needed("--oracle")?, arguments.needed("--replay")?);
+    let (name, mode) = arguments.mode()?;
+    cards::run(name, mode, seed, least, oracle, replay).map_err(|error| error.to_string())
+}
+
 fn main() -> ExitCode {
     let arguments = Arguments(std::env::args().skip(1).collect());
     let done = match arguments.0.first().map(String::as_str) {
@@ -107,6 +120,10 @@ fn main() -> ExitCode {
         Some("record") => record(&arguments),
         Some("choose") => choose(&arguments),
         Some("sample") => sample(&arguments),
+        Some("cards") => cards(&arguments),
+        Some("expect") => arguments
+            .needed("--oracle")
+            .and_then(|path| cards::expect(path).map_err(|error| error.to_string())),
         _ => Err(USAGE.to_string()),
     };
     match done {

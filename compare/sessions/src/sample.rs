@@ -24,7 +24,13 @@ fn columns(numbers: &[u64], widths: &[usize]) -> Option<String> {
     Some(text)
 }
 
-fn card(call: &Call) -> Option<String> {
+/// A card's columns, without a newline; none where a number has no room.
+pub fn card_columns(numbers: &[u64; 6]) -> Option<String> {
+    columns(numbers, &CARD).map(|text| text.trim_end().to_string())
+}
+
+/// The card of a call, with its newline.
+pub fn card(call: &Call) -> Option<String> {
     let c = call.card();
     columns(&[c.code, c.number, c.peer, c.size, c.first, c.second], &CARD)
 }
@@ -169,6 +175,35 @@ fn state_lines(state: &str) -> Option<Vec<LineC>> {
     Some(lines)
 }
 
+// ---- as the program replay prints them
+
+fn show(l: &LineC) -> Option<String> {
+    columns(&[l.code, l.number, l.peer, l.first, l.second], &ANSWER)
+}
+
+// Line 31's two sets as lines 14 and 15, under the active number.
+fn by_timer(l: &LineC, active: u64) -> Vec<LineC> {
+    let of = |code: u64, set: u64| {
+        let ids = (0..64u64).filter(move |id| set >> id & 1 == 1);
+        ids.map(move |id| line(code, active, id, 0, 0))
+    };
+    of(14, l.first).chain(of(15, l.second)).collect()
+}
+
+/// The oracle's answer to a card that was accepted, as the lines that `replay` prints.
+pub fn replay_lines(call: &Call, answer: &str) -> Option<String> {
+    let (words, state) = answer.split_once(" | ")?;
+    let active = state.split(' ').find_map(|part| part.strip_prefix("num="))?.parse().ok()?;
+    let lines = answer_lines(call, words)?.into_iter();
+    let lines = lines.flat_map(|l| if l.code == 31 { by_timer(&l, active) } else { vec![l] });
+    lines.map(|l| show(&l)).collect()
+}
+
+/// The line of a refused card.
+pub fn refused_line(k: u64, card: u64) -> Option<String> {
+    show(&line(20, 0, 0, k, card))
+}
+
 // ---- the files
 
 fn is_question(call: &Call) -> bool {
@@ -195,7 +230,6 @@ fn stored(call: &str, answer: &str) -> Option<(String, String)> {
         Line::Blank | Line::Comment(_) | Line::Verbose(_) => return Some(Default::default()),
         _ => return None,
     };
-    let show = |l: &LineC| columns(&[l.code, l.number, l.peer, l.first, l.second], &ANSWER);
     let lines: Option<Vec<String>> = answered(&call, answer)?.iter().map(show).collect();
     Some((card(&call)?, lines?.concat()))
 }

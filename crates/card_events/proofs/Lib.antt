@@ -1,0 +1,2 @@
+-- The two claims on cards as numbers, proved.
+pub mod Laws

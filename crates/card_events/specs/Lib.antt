@@ -1,0 +1,3 @@
+-- Cards as numbers, and what is claimed of them.
+pub mod Events
+pub mod Claims

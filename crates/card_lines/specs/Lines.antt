@@ -1,0 +1,98 @@
+-- Document 02, wish 1, output lines: code (2 columns), number (21), peer (4), first (21), second (21). What lines a card gives, and how a
+-- line is read back. Definitions only.
+use Prim.Native.Nat.{ℕ, zero, suc}
+use mathlib.Core.Bool.{Bool, false, cond}
+use mathlib.Core.List.{List, [], _∷_, _++_}
+use lib.Dec.{eqb}
+use lib.ListN.{length}
+use lib.Seq.{slice}
+use Rattle.bitmap.specs.declared.Bitmap.{Bitmap}
+use Rattle.bitmap.specs.Bitmaps.{capacity, isOne}
+use Rattle.lease.specs.declared.Line.{Line}
+use Rattle.lease.specs.declared.Lines.{Lines}
+use Rattle.lease.specs.declared.Lines.the-variants as L
+use Rattle.lease.specs.declared.QuietEnd.{QuietEnd}
+use Rattle.lease.specs.declared.QuietEnd.the-variants as Q
+use Rattle.columns.specs.declared.Field.{Field}
+use Rattle.columns.specs.Columns.{column, fieldOf, isNumber, numberIn}
+use Rattle.host_lines.specs.declared.LineC.{LineC}
+use Rattle.host_lines.specs.Lines.{lineC, lineOf}
+use Rattle.card_events.specs.declared.CardOutcome.{CardOutcome}
+use Rattle.card_events.specs.declared.CardOutcome.the-variants as O
+use Rattle.card_lines.specs.declared.LineRead.{LineRead}
+use Rattle.card_lines.specs.declared.LineRead.the-variants as R
+
+-- ---- lines as bytes
+
+-- A line, without its newline.
+unfoldable pub lineColumns : LineC → List ℕ
+lineColumns l = column 2 (l .code) ++ column 21 (l .number) ++ column 4 (l .peer) ++ column 21 (l .first) ++ column 21 (l .second)
+
+-- And with it.
+unfoldable pub lineText : LineC → List ℕ
+lineText l = lineColumns l ++ (10 ∷ [])
+
+unfoldable pub textOf : List LineC → List ℕ
+textOf [] = []
+textOf (l ∷ ls) = lineText l ++ textOf ls
+
+-- ---- the lines of what a card gives. Lines 1 to 13, the actions, are those of `host_lines`
+
+-- 14 a fired sent timer, 15 a fired held timer: the line of the id i, if it fired.
+abbrev pub firedLine : ℕ → ℕ → Bitmap → ℕ → List LineC
+firedLine code num set i = cond (isOne set i) (lineC code num i 0 0 ∷ []) []
+
+-- Those of the ids below n, by id.
+unfoldable pub firedLines : ℕ → ℕ → Bitmap → ℕ → List LineC
+firedLines code num set zero = []
+firedLines code num set (suc n) = firedLines code num set n ++ firedLine code num set n
+
+abbrev pub actionLine : Line → List LineC
+actionLine a = lineOf a ∷ []
+
+unfoldable pub actionLines : Lines → List LineC
+actionLines L.None = []
+actionLines (L.One a) = actionLine a
+actionLines (L.Two a b) = actionLine a ++ actionLine b
+actionLines (L.Three a b c) = actionLine a ++ actionLine b ++ actionLine c
+
+-- Behind the fired timers. No card starts quiet time, so that no list of cards from set-up on gives it.
+unfoldable pub quietLines : QuietEnd → List LineC
+quietLines Q.None = []
+quietLines (Q.Given line) = actionLine line
+
+-- 20 a refused card: first is the refusal, second the card's number. Set-up prints nothing.
+unfoldable pub outcomeLines : ℕ → CardOutcome → List LineC
+outcomeLines card (O.Refused k) = lineC 20 0 0 k card ∷ []
+outcomeLines card O.Done = []
+outcomeLines card (O.Acted lines) = actionLines lines
+outcomeLines card (O.Fired num sent held end) = firedLines 14 (num .0) sent capacity ++ firedLines 15 (num .0) held capacity ++ quietLines end
+
+abbrev pub outcomeText : ℕ → CardOutcome → List ℕ
+outcomeText card outcome = textOf (outcomeLines card outcome)
+
+-- How many bytes have room for them: 70 for each line that can come.
+unfoldable pub roomOf : CardOutcome → ℕ
+roomOf (O.Refused k) = 70
+roomOf O.Done = 0
+roomOf (O.Acted lines) = 210
+roomOf (O.Fired num sent held end) = 9030
+
+-- ---- reading a line back
+
+unfoldable pub allNumbers : Field → Field → Field → Field → Field → Bool
+allNumbers code num peer first second =
+    cond (isNumber code) (cond (isNumber num) (cond (isNumber peer) (cond (isNumber first) (isNumber second) false) false) false) false
+
+abbrev pub lineIn : Field → Field → Field → Field → Field → LineRead
+lineIn code num peer first second =
+    cond (allNumbers code num peer first second)
+    (R.Numbers (lineC (numberIn code) (numberIn num) (numberIn peer) (numberIn first) (numberIn second)))
+    R.NotOfForm
+
+-- A line without its newline: 69 columns, a number in each field.
+unfoldable pub lineRead : List ℕ → LineRead
+lineRead line =
+    cond (eqb (length line) 69)
+    (lineIn (fieldOf (slice 0 2 line)) (fieldOf (slice 2 23 line)) (fieldOf (slice 23 27 line)) (fieldOf (slice 27 48 line)) (fieldOf (slice 48 69 line)))
+    R.NotOfForm

@@ -1,0 +1,196 @@
+// Output lines (document 02, wish 1): 69 columns and a newline. Writing the lines of what a card gives, and
+// reading one line back. Definitions in specs/Lines, what is claimed of them in specs/Claims.
+use bitmap::Bitmap;
+use bitmap::is_one;
+use card_events::CardOutcome;
+use columns::Field;
+use columns::field_of;
+use columns::is_number;
+use columns::number_in;
+use columns::put_column;
+use host_lines::LineC;
+use host_lines::line_of;
+use lease::Line;
+use lease::Lines;
+use lease::QuietEnd;
+ghost use Prim.Native.Nat.{_+_, _<_, _≤_};
+ghost use mathlib.Core.Path.{_≡_};
+ghost use lib.ListN.{length};
+ghost use lib.Seq.{sets};
+ghost use Rattle.bitmap.specs.Bitmaps.{capacity};
+ghost use Rattle.host_lines.specs.Lines.{lineC};
+ghost use Rattle.card_lines.specs.Lines.{lineText, textOf, firedLine, firedLines, actionLine, actionLines, quietLines, outcomeText, roomOf, allNumbers, lineRead};
+
+// How long a line is.
+const COLUMNS: usize = 69;
+
+// A line read as five numbers, if it is of the form.
+pub enum LineRead {
+    NotOfForm,
+    Numbers(LineC),
+}
+
+// ---- writing: each puts its lines from the index `at` on, and answers where they end
+
+pub fn put_line(out: &mut [u8], at: usize, l: LineC) -> usize
+    requires { ⌜ at + 70 ≤ length (now out) ⌝ }
+    ensures { λ r. ⌜ r ≡ at + length (lineText l) ⌝ }
+    ensures { λ r. ⌜ now (out .exit) ≡ sets (now (out .entry)) at (lineText l) ⌝ }
+{
+    put_column(out, at, 2, l.code);
+    put_column(out, at + 2, 21, l.number);
+    put_column(out, at + 23, 4, l.peer);
+    put_column(out, at + 27, 21, l.first);
+    put_column(out, at + 48, 21, l.second);
+    out[at + 69] = b'\n';
+    at + 70
+}
+
+// The line of the id i, if it is in the set.
+fn put_fired_id(out: &mut [u8], at: usize, code: u64, num: u64, set: Bitmap, i: usize) -> usize
+    requires { ⌜ at + 70 ≤ length (now out) ⌝ }
+    requires { ⌜ i < capacity ⌝ }
+    ensures { λ r. ⌜ r ≡ at + length (textOf (firedLine code num set i)) ⌝ }
+    ensures { λ r. ⌜ now (out .exit) ≡ sets (now (out .entry)) at (textOf (firedLine code num set i)) ⌝ }
+{
+    if is_one(set, i) {
+        let l = LineC {
+            code,
+            number: num,
+            peer: i as u64,
+            first: 0,
+            second: 0,
+        };
+        return put_line(out, at, l);
+    }
+    at
+}
+
+// The timers of a set that fired, by id.
+fn put_fired(out: &mut [u8], at: usize, code: u64, num: u64, set: Bitmap) -> usize
+    requires { ⌜ at + 4480 ≤ length (now out) ⌝ }
+    ensures { λ r. ⌜ r ≡ at + length (textOf (firedLines code num set capacity)) ⌝ }
+    ensures { λ r. ⌜ now (out .exit) ≡ sets (now (out .entry)) at (textOf (firedLines code num set capacity)) ⌝ }
+{
+    let mut end = at;
+    let mut i: usize = 0;
+    while i < 64 {
+        end = put_fired_id(out, end, code, num, set, i);
+        i = i + 1;
+    }
+    end
+}
+
+// A numbered action.
+fn put_action(out: &mut [u8], at: usize, line: Line) -> usize
+    requires { ⌜ at + 70 ≤ length (now out) ⌝ }
+    ensures { λ r. ⌜ r ≡ at + length (textOf (actionLine line)) ⌝ }
+    ensures { λ r. ⌜ now (out .exit) ≡ sets (now (out .entry)) at (textOf (actionLine line)) ⌝ }
+{
+    let l = line_of(line);
+    put_line(out, at, l)
+}
+
+// A notice's actions, in order.
+fn put_actions(out: &mut [u8], at: usize, lines: Lines) -> usize
+    requires { ⌜ at + 210 ≤ length (now out) ⌝ }
+    ensures { λ r. ⌜ r ≡ at + length (textOf (actionLines lines)) ⌝ }
+    ensures { λ r. ⌜ now (out .exit) ≡ sets (now (out .entry)) at (textOf (actionLines lines)) ⌝ }
+{
+    match lines {
+        Lines::None => at,
+        Lines::One(a) => put_action(out, at, a),
+        Lines::Two(a, b) => {
+            let second = put_action(out, at, a);
+            put_action(out, second, b)
+        }
+        Lines::Three(a, b, c) => {
+            let second = put_action(out, at, a);
+            let third = put_action(out, second, b);
+            put_action(out, third, c)
+        }
+    }
+}
+
+// The quiet-end line, if there is one.
+fn put_quiet_end(out: &mut [u8], at: usize, end: QuietEnd) -> usize
+    requires { ⌜ at + 70 ≤ length (now out) ⌝ }
+    ensures { λ r. ⌜ r ≡ at + length (textOf (quietLines end)) ⌝ }
+    ensures { λ r. ⌜ now (out .exit) ≡ sets (now (out .entry)) at (textOf (quietLines end)) ⌝ }
+{
+    match end {
+        QuietEnd::None => at,
+        QuietEnd::Given(line) => put_action(out, at, line),
+    }
+}
+
+// The lines of what the card of that number gives.
+pub fn put_outcome(out: &mut [u8], at: usize, card: u64, outcome: CardOutcome) -> usize
+    requires { ⌜ at + roomOf outcome ≤ length (now out) ⌝ }
+    ensures { λ r. ⌜ r ≡ at + length (outcomeText card outcome) ⌝ }
+    ensures { λ r. ⌜ now (out .exit) ≡ sets (now (out .entry)) at (outcomeText card outcome) ⌝ }
+{
+    match outcome {
+        CardOutcome::Refused(code) => {
+            let l = LineC {
+                code: 20,
+                number: 0,
+                peer: 0,
+                first: code as u64,
+                second: card,
+            };
+            put_line(out, at, l)
+        }
+        CardOutcome::Done => at,
+        CardOutcome::Acted(lines) => put_actions(out, at, lines),
+        CardOutcome::Fired(num, sent, held, end) => {
+            let held_at = put_fired(out, at, 14, num.0, sent);
+            let end_at = put_fired(out, held_at, 15, num.0, held);
+            put_quiet_end(out, end_at, end)
+        }
+    }
+}
+
+// ---- reading
+
+fn all_numbers(code: Field, number: Field, peer: Field, first: Field, second: Field) -> bool
+    ensures { λ r. ⌜ r ≡ allNumbers code number peer first second ⌝ }
+{
+    if !is_number(code) {
+        return false;
+    }
+    if !is_number(number) {
+        return false;
+    }
+    if !is_number(peer) {
+        return false;
+    }
+    if !is_number(first) {
+        return false;
+    }
+    is_number(second)
+}
+
+// The five numbers of a line, which is handed in without its newline.
+pub fn read_line(line: &[u8]) -> LineRead
+    ensures { λ r. ⌜ r ≡ lineRead (now (line .entry)) ⌝ }
+{
+    if line.len() != COLUMNS {
+        return LineRead::NotOfForm;
+    }
+    let code = field_of(line, 0, 2);
+    let number = field_of(line, 2, 23);
+    let peer = field_of(line, 23, 27);
+    let first = field_of(line, 27, 48);
+    let second = field_of(line, 48, 69);
+    if !all_numbers(code, number, peer, first, second) {
+        return LineRead::NotOfForm;
+    }
+    LineRead::Numbers(LineC {
+        code: number_in(code),
+        number: number_in(number),
+        peer: number_in(peer),
+        first: number_in(first),
+        second: number_in(second),
+    })
+}

@@ -1,0 +1,3 @@
+-- Numbers in fixed columns, and what is claimed of them.
+pub mod Columns
+pub mod Claims
