@@ -83,7 +83,7 @@ fn with_manager(s: Session, manager: Manager) -> Session
 
 // Set-up comes once, and before all others: else 23.
 fn is_turn(is_set_up: bool, e: Event) -> bool
-    ensures { λ r. ⌜ r ≡ isTurn is_set_up e ⌝ }
+    ensures { λ r. ⌜ r ≡ isTurn «is_set_up» e ⌝ }
 {
     match e {
         Event::SetUp(_) => !is_set_up,

@@ -1,0 +1,128 @@
+-- Feeding a line at a time, as the code goes: a chunk is its first line and then the rest, a line's bytes one by one, and the room that
+-- each line leaves for the rest. Assumes nothing.
+use Prim.Native.Nat.{ℕ, suc, _<_, _≤_, _+_, _-_, _*_, min}
+use mathlib.Core.Path.{_≡_, refl}
+use mathlib.Core.Bool.{Bool, true, false, cond}
+use mathlib.Core.List.{List, [], _∷_, _++_}
+use native.Mathlib.Numerals.{add-one}
+use native.Mathlib.Omega.{arith}
+use borrow.Author.Tests.{ltb-true, ltb-false, eqb-true, lt-ltb}
+use lib.Dec.{eqb, ltb, leb·suc-suc}
+use lib.ListN.{length, drop, getD, drop-of-length-le}
+use lib.Seq.{drop-cons}
+use Rattle.card_sessions.specs.Sessions.{refusedCard, cardGiven}
+use Rattle.card_lines.specs.Lines.{roomOf}
+use Rattle.card_lines.proofs.Laws.{fits}
+use Rattle.card_feed.specs.declared.Partial.{Partial}
+use Rattle.card_feed.specs.declared.Replay.{Replay}
+use Rattle.card_feed.specs.Feed.{givenText, keptBy, partialRead, lineGiven, endedText, ended, keptIn, feedNext, feedText, held, lineEnd, fillNext, filledBy, turnNext, turnText, turnLength}
+
+-- ---- the bytes of a line, one by one
+
+pub fill-at : (p : Partial) (bs : List ℕ) (i : ℕ) → i < length bs → eqb (getD bs i 0) 10 ≡ false → (fillNext p (drop i bs) ≡ fillNext (keptBy p (getD bs i 0)) (drop (i + 1) bs)) × (lineEnd (drop i bs) ≡ suc (lineEnd (drop (i + 1) bs)))
+unfolding fillNext lineEnd
+fill-at p bs i h e = rw (drop-cons bs i 0, add-one, e) (refl, refl)
+
+pub fill-stop : (p : Partial) (bs : List ℕ) (i : ℕ) → i < length bs → eqb (getD bs i 0) 10 ≡ true → (fillNext p (drop i bs) ≡ p) × (lineEnd (drop i bs) ≡ 0)
+unfolding fillNext lineEnd
+fill-stop p bs i h e = rw (drop-cons bs i 0, e) (refl, refl)
+
+pub fill-end : (p : Partial) (bs : List ℕ) (i : ℕ) → length bs ≤ i → (fillNext p (drop i bs) ≡ p) × (lineEnd (drop i bs) ≡ 0)
+unfolding fillNext lineEnd
+fill-end p bs i h = rw (drop-of-length-le bs h) (refl, refl)
+
+pub line-end-le : (bs : List ℕ) → lineEnd bs ≤ length bs
+unfolding lineEnd
+line-end-le [] = omega arith
+line-end-le (b ∷ bs) = go (eqb b 10) (line-end-le bs)
+  where
+    go : (t : Bool) → lineEnd bs ≤ length bs → cond t 0 (suc (lineEnd bs)) ≤ suc (length bs)
+    go true h = omega arith
+    go false h = omega arith
+
+-- ---- the first line of a chunk, and the rest
+
+-- a newline first: it ends the line
+newline-first : (r : Replay) (b : ℕ) (bs : List ℕ) → eqb b 10 ≡ true → (turnNext r (b ∷ bs) ≡ ended r) × (turnText r (b ∷ bs) ≡ endedText r) × (turnLength (b ∷ bs) ≡ 1)
+unfolding turnNext turnText turnLength fillNext lineEnd
+newline-first r b bs e = rw (e, lt-ltb 0 (suc (length bs)) (omega arith)) (refl, refl, refl)
+
+-- another byte first: it is kept
+byte-first : (r : Replay) (b : ℕ) (bs : List ℕ) → eqb b 10 ≡ false → (turnNext r (b ∷ bs) ≡ turnNext (keptIn r b) bs) × (turnText r (b ∷ bs) ≡ turnText (keptIn r b) bs) × (turnLength (b ∷ bs) ≡ suc (turnLength bs))
+unfolding turnNext turnText turnLength fillNext lineEnd
+byte-first r b bs e = rw (e, leb·suc-suc) (refl, refl, go (ltb (lineEnd bs) (length bs)))
+  where
+    go : (t : Bool) → cond t (suc (lineEnd bs) + 1) (suc (lineEnd bs)) ≡ suc (cond t (lineEnd bs + 1) (lineEnd bs))
+    go true = omega arith
+    go false = refl
+
+-- What the first line leaves and prints goes before the rest.
+abbrev Turned : Replay → List ℕ → Type 0
+Turned r bs = (feedNext r bs ≡ feedNext (turnNext r bs) (drop (turnLength bs) bs)) × (feedText r bs ≡ turnText r bs ++ feedText (turnNext r bs) (drop (turnLength bs) bs))
+
+turned-none : (r : Replay) → Turned r []
+unfolding feedNext feedText turnNext turnText turnLength fillNext lineEnd
+turned-none r = (refl, refl)
+
+turned : (r : Replay) (bs : List ℕ) → Turned r bs
+unfolding feedNext feedText
+turned r [] = turned-none r
+turned r (b ∷ bs) = go (eqb b 10) refl (turned (keptIn r b) bs)
+  where
+    go : (t : Bool) → eqb b 10 ≡ t → Turned (keptIn r b) bs → Turned r (b ∷ bs)
+    go true e h = let s = newline-first r b bs e in rw (s .0, s .1, s .2, e) (refl, refl)
+    go false e h = let s = byte-first r b bs e in rw (s .0, s .1, s .2, e) h
+
+pub turn-next : (r : Replay) (bs : List ℕ) → feedNext r bs ≡ feedNext (turnNext r bs) (drop (turnLength bs) bs)
+turn-next r bs = turned r bs .0
+
+pub turn-text : (r : Replay) (bs : List ℕ) → feedText r bs ≡ turnText r bs ++ feedText (turnNext r bs) (drop (turnLength bs) bs)
+turn-text r bs = turned r bs .1
+
+pub turn-on : (bs : List ℕ) → 0 < length bs → (0 < turnLength bs) × (turnLength bs ≤ length bs)
+unfolding turnLength
+turn-on bs h = go (ltb (lineEnd bs) (length bs)) refl
+  where
+    go : (t : Bool) → ltb (lineEnd bs) (length bs) ≡ t → (0 < cond t (lineEnd bs + 1) (lineEnd bs)) × (cond t (lineEnd bs + 1) (lineEnd bs) ≤ length bs)
+    go true e = omega (arith, ltb-true (lineEnd bs) (length bs) e)
+    go false e = omega (arith, ltb-false (lineEnd bs) (length bs) e, line-end-le bs)
+
+-- ---- the room: 123 bytes for each byte of the input and of the line that is held
+
+-- a byte more is at most one more that is held
+held-kept : (p : Partial) (b : ℕ) → min (keptBy p b .filled) 74 ≤ min (p .filled) 74 + 1
+unfolding keptBy
+held-kept p b = go (ltb (p .filled) 73) refl
+  where
+    go : (t : Bool) → ltb (p .filled) 73 ≡ t → min (keptBy p b .filled) 74 ≤ min (p .filled) 74 + 1
+    go true e = rw e (omega arith)
+    go false e = rw e (omega (arith, ltb-false (p .filled) 73 e))
+
+pub held-filled : (r : Replay) (bs : List ℕ) → held (filledBy r bs) ≤ held r + lineEnd bs
+unfolding fillNext lineEnd
+held-filled r [] = omega arith
+held-filled r (b ∷ bs) = go (eqb b 10) (held-filled (keptIn r b) bs)
+  where
+    go : (t : Bool) → held (filledBy (keptIn r b) bs) ≤ held (keptIn r b) + lineEnd bs → min (cond t (r .partial) (fillNext (keptBy (r .partial) b) bs) .filled) 74 ≤ held r + cond t 0 (suc (lineEnd bs))
+    go true h = omega arith
+    go false h = omega (arith, held-kept (r .partial) b)
+
+pub room-of-line : (r : Replay) → roomOf (lineGiven r .outcome) ≤ 123 * (held r + 1)
+unfolding roomOf lineGiven partialRead cardGiven refusedCard
+room-of-line r = go (eqb (r .partial .filled) 73) refl
+  where
+    go : (t : Bool) → eqb (r .partial .filled) 73 ≡ t → roomOf (lineGiven r .outcome) ≤ 123 * (held r + 1)
+    go true e = omega (arith, eqb-true (r .partial .filled) 73 e, fits 0 (lineGiven r .outcome) .1)
+    go false e = rw e (omega arith)
+
+-- what a line prints and holds leaves the room of the rest
+pub turn-room : (r : Replay) (bs : List ℕ) → length (turnText r bs) + 123 * (held (turnNext r bs) + (length bs - turnLength bs)) ≤ 123 * (held r + length bs)
+unfolding turnNext turnText turnLength ended givenText
+turn-room r bs = go (ltb (lineEnd bs) (length bs)) refl
+  where
+    go : (t : Bool) → ltb (lineEnd bs) (length bs) ≡ t → length (turnText r bs) + 123 * (held (turnNext r bs) + (length bs - turnLength bs)) ≤ 123 * (held r + length bs)
+    go true e =
+        let l = ltb-true (lineEnd bs) (length bs) e in
+        let a = lineGiven (filledBy r bs) in
+        rw e (omega (arith, fits (a .session .cards) (a .outcome) .0, room-of-line (filledBy r bs), held-filled r bs))
+    go false e = rw e (omega (arith, held-filled r bs, line-end-le bs))

@@ -1,0 +1,2 @@
+-- What is claimed of cards one after the other, proved.
+pub mod Laws
