@@ -12,9 +12,10 @@ use lib.ListN.{length, take, length-append, length-set}
 use lib.Seq.{take-all, take-suc-set}
 use Rattle.card_events.specs.declared.EventRead.the-variants as R
 use Rattle.cards.specs.Cards.{cardRead, eventRead}
-use Rattle.card_feed.specs.declared.Partial.{Partial}
+use Rattle.card_partials.specs.declared.Partial.{Partial}
+use Rattle.card_partials.specs.Partials.{keptBy, partialRead}
 use Rattle.card_feed.specs.declared.Replay.{Replay}
-use Rattle.card_feed.specs.Feed.{restText, cardsText, replayText, blankReplay, keptBy, partialRead, lineGiven, ended, keptIn, feedNext, feedText, lastText, chunksText}
+use Rattle.card_feed.specs.Feed.{restText, cardsText, replayText, blankReplay, lineGiven, ended, keptIn, feedNext, feedText, lastText, chunksText}
 use Rattle.card_feed.specs.Claims.{joined, Chunks, Whole}
 
 -- Of a chunk that goes on: what it leaves and what it prints.

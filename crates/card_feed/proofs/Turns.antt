@@ -1,44 +1,21 @@
--- Feeding a line at a time, as the code goes: a chunk is its first line and then the rest, a line's bytes one by one, and the room that
--- each line leaves for the rest. Assumes nothing.
+-- Feeding a line at a time, as the code goes: a chunk is its first line and then the rest, and the room that each line leaves for the rest. Assumes nothing.
 use Prim.Native.Nat.{ℕ, suc, _<_, _≤_, _+_, _-_, _*_, min}
 use mathlib.Core.Path.{_≡_, refl}
 use mathlib.Core.Bool.{Bool, true, false, cond}
 use mathlib.Core.List.{List, [], _∷_, _++_}
-use native.Mathlib.Numerals.{add-one}
 use native.Mathlib.Omega.{arith}
-use borrow.Author.Tests.{ltb-true, ltb-false, eqb-true, lt-ltb}
+use borrow.Author.Tests.{ltb-true, ltb-false, eqb-true, lt-ltb, le-ltb}
 use lib.Dec.{eqb, ltb, leb·suc-suc}
-use lib.ListN.{length, drop, getD, drop-of-length-le}
-use lib.Seq.{drop-cons}
+use lib.ListN.{length, drop, length-drop}
+use lib.Seq.{drop-drop}
 use Rattle.card_sessions.specs.Sessions.{refusedCard, cardGiven}
 use Rattle.card_lines.specs.Lines.{roomOf}
 use Rattle.card_lines.proofs.Laws.{fits}
-use Rattle.card_feed.specs.declared.Partial.{Partial}
+use Rattle.card_partials.specs.declared.Partial.{Partial}
+use Rattle.card_partials.specs.Partials.{keptBy, partialRead, lineEnd, fillNext}
+use Rattle.card_partials.proofs.Bytes.{line-end-le}
 use Rattle.card_feed.specs.declared.Replay.{Replay}
-use Rattle.card_feed.specs.Feed.{givenText, keptBy, partialRead, lineGiven, endedText, ended, keptIn, feedNext, feedText, held, lineEnd, fillNext, filledBy, turnNext, turnText, turnLength}
-
--- ---- the bytes of a line, one by one
-
-pub fill-at : (p : Partial) (bs : List ℕ) (i : ℕ) → i < length bs → eqb (getD bs i 0) 10 ≡ false → (fillNext p (drop i bs) ≡ fillNext (keptBy p (getD bs i 0)) (drop (i + 1) bs)) × (lineEnd (drop i bs) ≡ suc (lineEnd (drop (i + 1) bs)))
-unfolding fillNext lineEnd
-fill-at p bs i h e = rw (drop-cons bs i 0, add-one, e) (refl, refl)
-
-pub fill-stop : (p : Partial) (bs : List ℕ) (i : ℕ) → i < length bs → eqb (getD bs i 0) 10 ≡ true → (fillNext p (drop i bs) ≡ p) × (lineEnd (drop i bs) ≡ 0)
-unfolding fillNext lineEnd
-fill-stop p bs i h e = rw (drop-cons bs i 0, e) (refl, refl)
-
-pub fill-end : (p : Partial) (bs : List ℕ) (i : ℕ) → length bs ≤ i → (fillNext p (drop i bs) ≡ p) × (lineEnd (drop i bs) ≡ 0)
-unfolding fillNext lineEnd
-fill-end p bs i h = rw (drop-of-length-le bs h) (refl, refl)
-
-pub line-end-le : (bs : List ℕ) → lineEnd bs ≤ length bs
-unfolding lineEnd
-line-end-le [] = omega arith
-line-end-le (b ∷ bs) = go (eqb b 10) (line-end-le bs)
-  where
-    go : (t : Bool) → lineEnd bs ≤ length bs → cond t 0 (suc (lineEnd bs)) ≤ suc (length bs)
-    go true h = omega arith
-    go false h = omega arith
+use Rattle.card_feed.specs.Feed.{givenText, lineGiven, endedText, ended, keptIn, feedNext, feedText, held, filledBy, turnNext, turnText, turnLength}
 
 -- ---- the first line of a chunk, and the rest
 
@@ -78,6 +55,15 @@ turn-next r bs = turned r bs .0
 
 pub turn-text : (r : Replay) (bs : List ℕ) → feedText r bs ≡ turnText r bs ++ feedText (turnNext r bs) (drop (turnLength bs) bs)
 turn-text r bs = turned r bs .1
+
+-- a line that has its newline in the chunk, and one that has not
+pub turn-ended : (r : Replay) (bs : List ℕ) → lineEnd bs < length bs → (turnNext r bs ≡ ended (filledBy r bs)) × (turnText r bs ≡ endedText (filledBy r bs)) × (turnLength bs ≡ lineEnd bs + 1)
+unfolding turnNext turnText turnLength
+turn-ended r bs h = rw (lt-ltb (lineEnd bs) (length bs) h) (refl, refl, refl)
+
+pub turn-open : (r : Replay) (bs : List ℕ) → length bs ≤ lineEnd bs → (turnNext r bs ≡ filledBy r bs) × (turnText r bs ≡ []) × (turnLength bs ≡ lineEnd bs)
+unfolding turnNext turnText turnLength
+turn-open r bs h = rw (le-ltb (lineEnd bs) (length bs) h) (refl, refl, refl)
 
 pub turn-on : (bs : List ℕ) → 0 < length bs → (0 < turnLength bs) × (turnLength bs ≤ length bs)
 unfolding turnLength
@@ -126,3 +112,13 @@ turn-room r bs = go (ltb (lineEnd bs) (length bs)) refl
         let a = lineGiven (filledBy r bs) in
         rw e (omega (arith, fits (a .session .cards) (a .outcome) .0, room-of-line (filledBy r bs), held-filled r bs))
     go false e = rw e (omega (arith, held-filled r bs, line-end-le bs))
+
+-- ---- one turn of the loop: the line from `from` on, and then the rest
+
+pub turn-more : (r : Replay) (input : List ℕ) (from : ℕ) → from < length input → (from + turnLength (drop from input) ≤ length input) × (0 < turnLength (drop from input)) × (feedNext r (drop from input) ≡ feedNext (turnNext r (drop from input)) (drop (from + turnLength (drop from input)) input)) × (feedText r (drop from input) ≡ turnText r (drop from input) ++ feedText (turnNext r (drop from input)) (drop (from + turnLength (drop from input)) input)) × (length (turnText r (drop from input)) + 123 * (held (turnNext r (drop from input)) + (length input - (from + turnLength (drop from input)))) ≤ 123 * (held r + (length input - from)))
+turn-more r input from h =
+    let bs = drop from input in
+    let l : length bs ≡ length input - from = length-drop from input in
+    let on : (0 < turnLength bs) × (turnLength bs ≤ length bs) = turn-on bs (omega arith) in
+    let d : drop (turnLength bs) bs ≡ drop (from + turnLength bs) input = drop-drop (turnLength bs) from input in
+    (omega arith, on .0, rw d at (turn-next r bs), rw d at (turn-text r bs), omega (arith, turn-room r bs))

@@ -5,14 +5,14 @@ use mathlib.Core.Bool.{Bool, true, false, cond}
 use mathlib.Core.List.{List, [], _∷_, _++_}
 use lib.Dec.{eqb, leb, ltb}
 use lib.ListN.{length, drop, set, replicate}
-use Rattle.card_events.specs.declared.EventRead.{EventRead}
 use Rattle.card_events.specs.declared.EventRead.the-variants as R
 use Rattle.cards.specs.Cards.{eventRead}
+use Rattle.card_partials.specs.declared.Partial.{Partial}
+use Rattle.card_partials.specs.Partials.{keptBy, partialRead, lineEnd, fillNext}
 use Rattle.card_sessions.specs.declared.Session.{Session}
 use Rattle.card_sessions.specs.declared.CardAnswer.{CardAnswer}
 use Rattle.card_sessions.specs.Sessions.{blankSession, cardGiven}
 use Rattle.card_lines.specs.Lines.{outcomeText}
-use Rattle.card_feed.specs.declared.Partial.{Partial}
 use Rattle.card_feed.specs.declared.Replay.{Replay}
 use Rattle.card_feed.specs.declared.Fed.{Fed}
 
@@ -44,16 +44,6 @@ replayText input = cardsText blankSession [] input
 
 unfoldable pub blankReplay : Replay
 blankReplay = record { partial = record { filled = 0; columns = replicate 73 0 }; session = blankSession }
-
--- The line with one byte more.
-unfoldable pub keptBy : Partial → ℕ → Partial
-keptBy p b =
-    cond (ltb (p .filled) 73) (record { filled = p .filled + 1; columns = set (p .columns) (p .filled) b })
-    (record { filled = 74; columns = p .columns })
-
--- The line so far, read as a card.
-unfoldable pub partialRead : Partial → EventRead
-partialRead p = cond (eqb (p .filled) 73) (eventRead (p .columns)) (R.Refused 21)
 
 unfoldable pub lineGiven : Replay → CardAnswer
 lineGiven r = cardGiven (r .session) (partialRead (r .partial))
@@ -108,16 +98,6 @@ lastBytes r room = cond (leb 70 room) (lastText r) []
 -- How many bytes of a line are held.
 abbrev pub held : Replay → ℕ
 held r = min (r .partial .filled) 74
-
--- How many bytes there are before a newline or the end.
-unfoldable pub lineEnd : List ℕ → ℕ
-lineEnd [] = 0
-lineEnd (b ∷ bs) = cond (eqb b 10) 0 (suc (lineEnd bs))
-
--- The line with them.
-unfoldable pub fillNext : Partial → List ℕ → Partial
-fillNext p [] = p
-fillNext p (b ∷ bs) = cond (eqb b 10) p (fillNext (keptBy p b) bs)
 
 abbrev pub filledBy : Replay → List ℕ → Replay
 filledBy r bs = record { partial = fillNext (r .partial) bs; session = r .session }

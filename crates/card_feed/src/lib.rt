@@ -2,10 +2,12 @@
 // Definitions in specs/Feed, what is claimed of them in specs/Claims.
 use card_events::EventRead;
 use card_lines::put_outcome;
+use card_partials::Partial;
+use card_partials::fill;
+use card_partials::read_partial;
 use card_sessions::Session;
 use card_sessions::blank_session;
 use card_sessions::take_card;
-use cards::read_event;
 ghost use Prim.Native.Nat.{_+_, _*_, _-_, _<_, _≤_};
 ghost use mathlib.Core.Path.{_≡_};
 ghost use mathlib.Core.Bool.{cond};
@@ -13,24 +15,14 @@ ghost use lib.Dec.{leb};
 ghost use lib.ListN.{length, drop};
 ghost use lib.Seq.{sets};
 ghost use Rattle.card_lines.specs.Lines.{roomOf};
-ghost use Rattle.card_feed.specs.Feed.{blankReplay, keptBy, partialRead, lineGiven, endedText, fillNext, lineEnd, turnNext, turnText, turnLength, held, feedText, hasRoom, fedOf, notFed, lastBytes};
+ghost use Rattle.card_feed.specs.Feed.{blankReplay, lineGiven, endedText, turnNext, turnText, turnLength, held, feedText, hasRoom, fedOf, notFed, lastBytes};
 ghost use Rattle.card_feed.specs.Feed.{ended as Feed·ended};
-
-// A card's columns.
-const COLUMNS: usize = 73;
 
 // The most bytes that are taken at a time, and the room that their lines need: for each byte of theirs and of a line
 // before them 123, since 74 bytes give at most 129 lines of 70.
 const MOST_INPUT: usize = 4096;
 
 const ROOM: usize = 512_910;
-
-// The line so far: how many of its bytes there are, 74 for any number above 73, and its first 73 bytes. Bytes from
-// `filled` on are of no meaning.
-pub struct Partial {
-    pub filled: usize,
-    pub columns: [u8; 73],
-}
 
 // What is kept between two chunks.
 pub struct Replay {
@@ -43,12 +35,6 @@ pub struct Fed {
     pub taken: bool,
     pub written: usize,
     pub replay: Replay,
-}
-
-// The line with the bytes up to a newline or the end, and where that is.
-struct Filled {
-    partial: Partial,
-    at: usize,
 }
 
 // What an ended line leaves, and where its output ends.
@@ -74,55 +60,6 @@ pub fn blank_replay() -> Replay
         partial: Partial { filled: 0, columns },
         session,
     }
-}
-
-// The line with one byte more.
-fn keep(p: Partial, b: u8) -> Partial
-    ensures { λ r. ⌜ r ≡ keptBy p b ⌝ }
-{
-    let at = p.filled;
-    let mut columns = p.columns;
-    if at < COLUMNS {
-        columns[at] = b;
-        return Partial {
-            filled: at + 1,
-            columns,
-        };
-    }
-    Partial {
-        filled: 74,
-        columns,
-    }
-}
-
-// The line with the bytes from `from` on, up to a newline or the end.
-fn fill(p: Partial, input: &[u8], from: usize) -> Filled
-    requires { ⌜ from ≤ length (now input) ⌝ }
-    ensures { λ r. ⌜ r .partial ≡ fillNext p (drop from (now (input .entry))) ⌝ }
-    ensures { λ r. ⌜ r .at ≡ from + lineEnd (drop from (now (input .entry))) ⌝ }
-{
-    let mut partial = p;
-    let mut i: usize = from;
-    while i < input.len() {
-        let b = input[i];
-        if b == b'\n' {
-            return Filled { partial, at: i };
-        }
-        partial = keep(partial, b);
-        i = i + 1;
-    }
-    Filled { partial, at: i }
-}
-
-// The line so far, read as a card: it ends here.
-fn read_partial(p: Partial) -> EventRead
-    ensures { λ r. ⌜ r ≡ partialRead p ⌝ }
-{
-    if p.filled == COLUMNS {
-        let columns = p.columns;
-        return read_event(&columns);
-    }
-    EventRead::Refused(21)
 }
 
 // The line ends: its card is taken, and what it gives is written.

@@ -14,12 +14,9 @@ struct Moved {
     replay: Replay,
 }
 
-// Writes the first n bytes; says so where it fails.
-fn write_out(out: &[u8], n: usize) -> bool {
-    if n > out.len() {
-        return false;
-    }
-    let is_written = io::write_all(STDOUT_FILENO, &out[..n]);
+// Writes the bytes; says so where it fails.
+fn write_out(out: &[u8]) -> bool {
+    let is_written = io::write_all(STDOUT_FILENO, out);
     if !is_written {
         os::fail(b"replay: standard output");
     }
@@ -29,7 +26,8 @@ fn write_out(out: &[u8], n: usize) -> bool {
 // Feeds what was read, and writes what it gives.
 fn pass_on(r: Replay, read: &[u8], out: &mut [u8]) -> Moved {
     let fed = feed(r, read, out);
-    let well = fed.taken && write_out(out, fed.written);
+    let n = fed.written;
+    let well = fed.taken && write_out(&out[..n]);
     let replay = fed.replay;
     Moved {
         more: well,
@@ -86,6 +84,6 @@ pub fn run() {
     if m.well {
         let replay = m.replay;
         let n = finish(replay, &mut out);
-        write_out(&out, n);
+        write_out(&out[..n]);
     }
 }

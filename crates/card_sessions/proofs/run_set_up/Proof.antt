@@ -43,4 +43,5 @@ run-set-up-spec =
     with-manager-requires
     returns
     returns-2)
+
 -- x

@@ -1,0 +1,2 @@
+-- The laws of filling a line, beside the functions' proofs.
+pub mod Bytes

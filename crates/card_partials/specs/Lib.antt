@@ -1,0 +1,2 @@
+-- The line so far.
+pub mod Partials
