@@ -6,6 +6,8 @@ use card_feed::feed;
 use card_feed::finish;
 use libc::STDIN_FILENO;
 use libc::STDOUT_FILENO;
+ghost use Prim.Native.Nat.{_≤_};
+ghost use lib.ListN.{length};
 
 // What a turn leaves: whether there may be more to read, whether all went well, and what is kept.
 struct Moved {
@@ -14,9 +16,11 @@ struct Moved {
     replay: Replay,
 }
 
-// Writes the bytes; says so where it fails.
-fn write_out(out: &[u8]) -> bool {
-    let is_written = io::write_all(STDOUT_FILENO, out);
+// Writes the first n bytes; says so where it fails.
+fn write_out(out: &[u8], n: usize) -> bool
+    requires { ⌜ n ≤ length (now out) ⌝ }
+{
+    let is_written = io::write_all(STDOUT_FILENO, &out[..n]);
     if !is_written {
         os::fail(b"replay: standard output");
     }
@@ -26,8 +30,7 @@ fn write_out(out: &[u8]) -> bool {
 // Feeds what was read, and writes what it gives.
 fn pass_on(r: Replay, read: &[u8], out: &mut [u8]) -> Moved {
     let fed = feed(r, read, out);
-    let n = fed.written;
-    let well = fed.taken && write_out(&out[..n]);
+    let well = fed.taken && write_out(out, fed.written);
     let replay = fed.replay;
     Moved {
         more: well,
@@ -84,6 +87,6 @@ pub fn run() {
     if m.well {
         let replay = m.replay;
         let n = finish(replay, &mut out);
-        write_out(&out[..n]);
+        write_out(&out, n);
     }
 }
