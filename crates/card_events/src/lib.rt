@@ -3,7 +3,9 @@
 // library's CallC; a card of wish 1 is stricter than a call of the host's: fields that a code does not name are 0.
 use bitmap::Bitmap;
 use host_cards::CallC;
+use host_cards::is_flag;
 use host_cards::lease_notice_of;
+use host_lines::flag_of;
 use lease::AcceptBar;
 use lease::LeaseMsg;
 use lease::LeaseNotice;
@@ -14,8 +16,6 @@ use lease::QuietEnd;
 use lease::ReplicaId;
 use timer::Reading;
 ghost use mathlib.Core.Path.{_≡_};
-ghost use Rattle.host_record.specs.Flat.{flag};
-ghost use Rattle.host_record.specs.Managers.{isFlag};
 ghost use Rattle.card_events.specs.Events.{card, isZero, isSet, isMsgCard, isNewGrants, isDoRevoke, isNoticeCard, isCard, eventOf, setSize, setBits, barFlag, barOf, msgKind, msgFirst, noticeCard, cardOf, carriedSet, carriedNotice, carriedEvent, isCarried};
 
 // What set-up is handed: `new_and_setup`'s arguments.
@@ -53,12 +53,6 @@ pub enum CardOutcome {
 
 // ---- which numbers are a card: refusal 22
 
-fn is_flag_number(n: u64) -> bool
-    ensures { λ r. ⌜ r ≡ isFlag n ⌝ }
-{
-    n < 2
-}
-
 // Unused fields are 0.
 fn is_zero(a: u64, b: u64) -> bool
     ensures { λ r. ⌜ r ≡ isZero a b ⌝ }
@@ -88,9 +82,9 @@ fn is_msg_card(kind: u64, first: u64) -> bool
         2 => true,
         3 => first == 0,
         4 => first == 0,
-        5 => is_flag_number(first),
+        5 => is_flag(first),
         6 => first == 0,
-        7 => is_flag_number(first),
+        7 => is_flag(first),
         _ => false,
     }
 }
@@ -181,12 +175,6 @@ pub fn six(code: u64, number: u64, peer: u64, size: u64, first: u64, second: u64
         first,
         second,
     }
-}
-
-fn flag_of(on: bool) -> u64
-    ensures { λ r. ⌜ r ≡ flag on ⌝ }
-{
-    if on { 1 } else { 0 }
 }
 
 fn set_size(set: PeerSet) -> u64

@@ -34,7 +34,8 @@ fn is_up_to(x: u64, high: u64) -> bool
     if 1 <= x { x <= high } else { false }
 }
 
-fn is_flag(n: u64) -> bool
+// 0 or 1.
+pub fn is_flag(n: u64) -> bool
     ensures { λ r. ⌜ r ≡ isFlag n ⌝ }
 {
     n < 2

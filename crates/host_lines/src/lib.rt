@@ -42,7 +42,8 @@ pub struct AnswerC {
 
 // ---- lines
 
-fn flag_of(on: bool) -> u64
+// A bool as a number.
+pub fn flag_of(on: bool) -> u64
     ensures { λ r. ⌜ r ≡ flag on ⌝ }
 {
     if on { 1 } else { 0 }

@@ -13,7 +13,7 @@ use host_lines::AnswerC;
 use host_lines::LineC;
 use host_record::ManagerC;
 use host_record::PeerC;
-use sample_columns::read_card;
+use sample_columns::next_card;
 use sample_columns::write_line;
 use setup::new_and_setup;
 use timer::Reading;
@@ -149,7 +149,7 @@ fn run_card(before: ManagerC, c: CallC) -> ManagerC {
 
 // One more card, if there is one.
 fn run_turn(before: ManagerC) -> Turn {
-    let card = read_card();
+    let card = next_card();
     let c = card.call;
     if card.there {
         let manager = run_card(before, c);

@@ -160,14 +160,15 @@ impl Draw {
         }
     }
 
-    // At times cards before the set-up, drawn by the record of the session before.
+    // At times cards before the set-up, drawn by the record of the session before. A set-up among them
+    // is one that is refused.
     fn too_early(&mut self, cards: &mut Cards) {
         if self.side.record.population == 0 {
             return;
         }
-        for _ in 0..self.random.below(3) {
+        for _ in 0..self.random.below(6) {
             let early = self.generator.next(&self.side.record);
-            if has_card(&early) && !matches!(early, Call::SetUp(_)) {
+            if has_card(&early) {
                 self.drawn(early, cards);
             }
         }

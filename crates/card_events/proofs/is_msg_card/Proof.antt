@@ -5,11 +5,11 @@ use Rattle.card_events.specs.Events.{isMsgCard}
 use Rattle.card_events.proofs.is_msg_card.Statement.{statement}
 use Rattle.card_events.proofs.is_msg_card.Tie as tie
 
-is-flag-number-requires : tie.Need-is-flag-number-requires
-is-flag-number-requires c κs = search needs
+is-flag-requires : tie.Need-is-flag-requires
+is-flag-requires c κs = search needs
 
-is-flag-number-requires-2 : tie.Need-is-flag-number-requires-2
-is-flag-number-requires-2 c κs = search needs
+is-flag-requires-2 : tie.Need-is-flag-requires-2
+is-flag-requires-2 c κs = search needs
 
 returns : tie.Need-returns
 unfolding isMsgCard
@@ -29,7 +29,7 @@ returns-4 c = simp (c .match .keys4)
 
 returns-5 : tie.Need-returns-5
 unfolding isMsgCard
-returns-5 c = simp (← c .is-flag-number .ensures, c .before .match .keys5)
+returns-5 c = simp (← c .is-flag .ensures, c .before .match .keys5)
 
 returns-6 : tie.Need-returns-6
 unfolding isMsgCard
@@ -37,7 +37,7 @@ returns-6 c = simp (c .match .keys6)
 
 returns-7 : tie.Need-returns-7
 unfolding isMsgCard
-returns-7 c = simp (← c .is-flag-number2 .ensures, c .before .match .keys7)
+returns-7 c = simp (← c .is-flag2 .ensures, c .before .match .keys7)
 
 returns-8 : tie.Need-returns-8
 unfolding isMsgCard
@@ -47,8 +47,8 @@ pub is-msg-card-spec : {M : Type 1} → statement M
 is-msg-card-spec =
     tie.close
     (tie.spec
-    is-flag-number-requires
-    is-flag-number-requires-2
+    is-flag-requires
+    is-flag-requires-2
     returns
     returns-2
     returns-3
