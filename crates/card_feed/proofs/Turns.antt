@@ -15,7 +15,8 @@ use Rattle.card_partials.specs.declared.Partial.{Partial}
 use Rattle.card_partials.specs.Partials.{keptBy, partialRead, lineEnd, fillNext}
 use Rattle.card_partials.proofs.Bytes.{line-end-le}
 use Rattle.card_feed.specs.declared.Replay.{Replay}
-use Rattle.card_feed.specs.Feed.{givenText, lineGiven, endedText, ended, keptIn, feedNext, feedText, held, filledBy, turnNext, turnText, turnLength}
+use Rattle.card_feed.specs.Feed.{givenText, lineGiven, endedText, ended, keptIn, feedNext, feedText}
+use Rattle.card_feed.specs.Turns.{held, filledBy, turnNext, turnText, turnLength}
 
 -- ---- the first line of a chunk, and the rest
 

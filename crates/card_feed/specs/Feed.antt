@@ -1,14 +1,13 @@
 -- Document 02, wish 1, from bytes to bytes: what a whole input prints, and the same a chunk at a time, as the program reads it. Definitions
 -- only.
-use Prim.Native.Nat.{ℕ, zero, suc, _+_, min}
+use Prim.Native.Nat.{ℕ}
 use mathlib.Core.Bool.{Bool, true, false, cond}
 use mathlib.Core.List.{List, [], _∷_, _++_}
-use lib.Dec.{eqb, leb, ltb}
-use lib.ListN.{length, drop, set, replicate}
+use lib.Dec.{eqb, leb}
+use lib.ListN.{length, replicate}
 use Rattle.card_events.specs.declared.EventRead.the-variants as R
 use Rattle.cards.specs.Cards.{eventRead}
-use Rattle.card_partials.specs.declared.Partial.{Partial}
-use Rattle.card_partials.specs.Partials.{keptBy, partialRead, lineEnd, fillNext}
+use Rattle.card_partials.specs.Partials.{keptBy, partialRead}
 use Rattle.card_sessions.specs.declared.Session.{Session}
 use Rattle.card_sessions.specs.declared.CardAnswer.{CardAnswer}
 use Rattle.card_sessions.specs.Sessions.{blankSession, cardGiven}
@@ -92,22 +91,3 @@ notFed r = record { taken = false; written = 0; replay = r }
 -- The end, where there is room for a line.
 unfoldable pub lastBytes : Replay → ℕ → List ℕ
 lastBytes r room = cond (leb 70 room) (lastText r) []
-
--- ---- a line at a time, as the code goes
-
--- How many bytes of a line are held.
-abbrev pub held : Replay → ℕ
-held r = min (r .partial .filled) 74
-
-abbrev pub filledBy : Replay → List ℕ → Replay
-filledBy r bs = record { partial = fillNext (r .partial) bs; session = r .session }
-
--- The bytes of one line and its newline, if it is there: what they leave, what they print, and how many they are.
-unfoldable pub turnNext : Replay → List ℕ → Replay
-turnNext r bs = cond (ltb (lineEnd bs) (length bs)) (ended (filledBy r bs)) (filledBy r bs)
-
-unfoldable pub turnText : Replay → List ℕ → List ℕ
-turnText r bs = cond (ltb (lineEnd bs) (length bs)) (endedText (filledBy r bs)) []
-
-unfoldable pub turnLength : List ℕ → ℕ
-turnLength bs = cond (ltb (lineEnd bs) (length bs)) (lineEnd bs + 1) (lineEnd bs)

@@ -11,11 +11,11 @@ use card_sessions::take_card;
 ghost use Prim.Native.Nat.{_+_, _*_, _-_, _<_, _≤_};
 ghost use mathlib.Core.Path.{_≡_};
 ghost use mathlib.Core.Bool.{cond};
-ghost use lib.Dec.{leb};
 ghost use lib.ListN.{length, drop};
 ghost use lib.Seq.{sets};
 ghost use Rattle.card_lines.specs.Lines.{roomOf};
-ghost use Rattle.card_feed.specs.Feed.{blankReplay, lineGiven, endedText, turnNext, turnText, turnLength, held, feedText, hasRoom, fedOf, notFed, lastBytes};
+ghost use Rattle.card_feed.specs.Feed.{blankReplay, lineGiven, endedText, feedText, hasRoom, fedOf, notFed, lastBytes};
+ghost use Rattle.card_feed.specs.Turns.{turnNext, turnText, turnLength, held};
 ghost use Rattle.card_feed.specs.Feed.{ended as Feed·ended};
 
 // The most bytes that are taken at a time, and the room that their lines need: for each byte of theirs and of a line

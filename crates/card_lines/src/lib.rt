@@ -18,7 +18,6 @@ ghost use mathlib.Core.Path.{_≡_};
 ghost use lib.ListN.{length};
 ghost use lib.Seq.{sets};
 ghost use Rattle.bitmap.specs.Bitmaps.{capacity};
-ghost use Rattle.host_lines.specs.Lines.{lineC};
 ghost use Rattle.card_lines.specs.Lines.{lineText, textOf, firedLine, firedLines, actionLine, actionLines, quietLines, outcomeText, roomOf, allNumbers, lineRead};
 
 // How long a line is.

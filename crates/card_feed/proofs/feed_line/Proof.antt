@@ -3,7 +3,7 @@ use mathlib.Core.Path.{refl}
 use native.Mathlib.Omega.{arith}
 use lib.ListN.{drop, length-drop}
 use borrow.Author.Needs.{needs}
-use Rattle.card_feed.specs.Feed.{filledBy}
+use Rattle.card_feed.specs.Turns.{filledBy}
 use Rattle.card_feed.proofs.Turns.{turn-ended, turn-open, held-filled, room-of-line}
 use Rattle.card_feed.proofs.feed_line.Statement.{statement}
 use Rattle.card_feed.proofs.feed_line.Tie as tie

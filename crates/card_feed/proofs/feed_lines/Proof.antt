@@ -8,7 +8,8 @@ use lib.ListN.{length, drop, length-append, drop-of-length-le}
 use lib.Seq.{sets, length-sets}
 use borrow.Author.Needs.{needs}
 use Rattle.columns.proofs.Text.{sets-append}
-use Rattle.card_feed.specs.Feed.{feedNext, feedText, held, fedOf}
+use Rattle.card_feed.specs.Feed.{feedNext, feedText, fedOf}
+use Rattle.card_feed.specs.Turns.{held}
 use Rattle.card_feed.proofs.Turns.{turn-more}
 use Rattle.card_feed.proofs.feed_lines.Statement.{statement}
 use Rattle.card_feed.proofs.feed_lines.Tie as tie

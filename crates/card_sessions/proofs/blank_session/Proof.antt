@@ -3,9 +3,6 @@ use borrow.Author.Needs.{needs}
 use Rattle.card_sessions.specs.Sessions.{blankSession}
 use Rattle.card_sessions.proofs.blank_session.Statement.{statement}
 use Rattle.card_sessions.proofs.blank_session.Tie as tie
-use Rattle.card_sessions.proofs.blank_session.Reads as reads
-use Rattle.card_sessions.proofs.blank_session.Lts as lts
-use Rattle.setup.proofs.new_and_setup.Reads as new-and-setup-reads
 
 new-and-setup-requires : tie.Need-new-and-setup-requires
 new-and-setup-requires c κs = search needs

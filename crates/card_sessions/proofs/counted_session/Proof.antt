@@ -3,9 +3,6 @@ use borrow.Author.Needs.{needs}
 use Rattle.card_sessions.specs.Sessions.{counted}
 use Rattle.card_sessions.proofs.counted_session.Statement.{statement}
 use Rattle.card_sessions.proofs.counted_session.Tie as tie
-use Rattle.card_sessions.proofs.counted_session.Reads as reads
-use Rattle.card_sessions.proofs.counted_session.Lts as lts
-use Rattle.card_sessions.proofs.next_card.Reads as next-card-reads
 
 next-card-requires : tie.Need-next-card-requires
 next-card-requires c κs = search needs

@@ -3,8 +3,6 @@ use borrow.Author.Needs.{needs}
 use Rattle.card_sessions.specs.Sessions.{isTurn}
 use Rattle.card_sessions.proofs.is_turn.Statement.{statement}
 use Rattle.card_sessions.proofs.is_turn.Tie as tie
-use Rattle.card_sessions.proofs.is_turn.Reads as reads
-use Rattle.card_sessions.proofs.is_turn.Lts as lts
 
 enum-told : tie.Need-enum-told
 enum-told c = search needs

@@ -3,8 +3,6 @@ use borrow.Author.Tests.{le-ltb, lt-ltb}
 use borrow.Author.Needs.{needs}
 use Rattle.card_sessions.proofs.next_card.Statement.{statement}
 use Rattle.card_sessions.proofs.next_card.Tie as tie
-use Rattle.card_sessions.proofs.next_card.Reads as reads
-use Rattle.card_sessions.proofs.next_card.Lts as lts
 
 add-result : tie.Need-add-result
 add-result c = search needs

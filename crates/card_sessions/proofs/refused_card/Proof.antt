@@ -3,8 +3,6 @@ use mathlib.Core.Path.{refl}
 use Rattle.card_sessions.specs.Sessions.{refusedCard}
 use Rattle.card_sessions.proofs.refused_card.Statement.{statement}
 use Rattle.card_sessions.proofs.refused_card.Tie as tie
-use Rattle.card_sessions.proofs.refused_card.Reads as reads
-use Rattle.card_sessions.proofs.refused_card.Lts as lts
 
 returns : tie.Need-returns
 unfolding refusedCard

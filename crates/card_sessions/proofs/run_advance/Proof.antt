@@ -3,11 +3,6 @@ use borrow.Author.Needs.{needs}
 use Rattle.card_sessions.specs.Sessions.{advanceGiven}
 use Rattle.card_sessions.proofs.run_advance.Statement.{statement}
 use Rattle.card_sessions.proofs.run_advance.Tie as tie
-use Rattle.card_sessions.proofs.run_advance.Reads as reads
-use Rattle.card_sessions.proofs.run_advance.Lts as lts
-use Rattle.card_sessions.proofs.refused_card.Reads as refused-card-reads
-use Rattle.card_sessions.proofs.with_manager.Reads as with-manager-reads
-use Rattle.clock_calls.proofs.advance.Reads as advance-reads
 
 advance-requires : tie.Need-advance-requires
 advance-requires c κs = search needs

@@ -3,11 +3,6 @@ use borrow.Author.Needs.{needs}
 use Rattle.card_sessions.specs.Sessions.{eventGiven}
 use Rattle.card_sessions.proofs.run_event.Statement.{statement}
 use Rattle.card_sessions.proofs.run_event.Tie as tie
-use Rattle.card_sessions.proofs.run_event.Reads as reads
-use Rattle.card_sessions.proofs.run_event.Lts as lts
-use Rattle.card_sessions.proofs.run_advance.Reads as run-advance-reads
-use Rattle.card_sessions.proofs.run_notice.Reads as run-notice-reads
-use Rattle.card_sessions.proofs.run_set_up.Reads as run-set-up-reads
 
 enum-known-e : tie.Need-enum-known-e
 enum-known-e c = search needs

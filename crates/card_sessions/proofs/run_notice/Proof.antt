@@ -3,11 +3,6 @@ use borrow.Author.Needs.{needs}
 use Rattle.card_sessions.specs.Sessions.{noticeGiven}
 use Rattle.card_sessions.proofs.run_notice.Statement.{statement}
 use Rattle.card_sessions.proofs.run_notice.Tie as tie
-use Rattle.card_sessions.proofs.run_notice.Reads as reads
-use Rattle.card_sessions.proofs.run_notice.Lts as lts
-use Rattle.card_sessions.proofs.refused_card.Reads as refused-card-reads
-use Rattle.card_sessions.proofs.with_manager.Reads as with-manager-reads
-use Rattle.leaseman.proofs.add_notice.Reads as add-notice-reads
 
 add-notice-requires : tie.Need-add-notice-requires
 add-notice-requires c κs = search needs

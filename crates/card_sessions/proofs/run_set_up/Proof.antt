@@ -3,11 +3,6 @@ use borrow.Author.Needs.{needs}
 use Rattle.card_sessions.specs.Sessions.{setUpGiven}
 use Rattle.card_sessions.proofs.run_set_up.Statement.{statement}
 use Rattle.card_sessions.proofs.run_set_up.Tie as tie
-use Rattle.card_sessions.proofs.run_set_up.Reads as reads
-use Rattle.card_sessions.proofs.run_set_up.Lts as lts
-use Rattle.card_sessions.proofs.refused_card.Reads as refused-card-reads
-use Rattle.card_sessions.proofs.with_manager.Reads as with-manager-reads
-use Rattle.setup.proofs.new_and_setup.Reads as new-and-setup-reads
 
 new-and-setup-requires : tie.Need-new-and-setup-requires
 new-and-setup-requires c κs = search needs

@@ -3,12 +3,6 @@ use borrow.Author.Needs.{needs}
 use Rattle.card_sessions.specs.Sessions.{cardGiven}
 use Rattle.card_sessions.proofs.take_card.Statement.{statement}
 use Rattle.card_sessions.proofs.take_card.Tie as tie
-use Rattle.card_sessions.proofs.take_card.Reads as reads
-use Rattle.card_sessions.proofs.take_card.Lts as lts
-use Rattle.card_sessions.proofs.counted_session.Reads as counted-session-reads
-use Rattle.card_sessions.proofs.is_turn.Reads as is-turn-reads
-use Rattle.card_sessions.proofs.refused_card.Reads as refused-card-reads
-use Rattle.card_sessions.proofs.run_event.Reads as run-event-reads
 
 counted-session-requires : tie.Need-counted-session-requires
 counted-session-requires c κs = search needs

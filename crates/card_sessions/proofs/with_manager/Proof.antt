@@ -3,8 +3,6 @@ use mathlib.Core.Path.{refl}
 use Rattle.card_sessions.specs.Sessions.{withManager}
 use Rattle.card_sessions.proofs.with_manager.Statement.{statement}
 use Rattle.card_sessions.proofs.with_manager.Tie as tie
-use Rattle.card_sessions.proofs.with_manager.Reads as reads
-use Rattle.card_sessions.proofs.with_manager.Lts as lts
 
 returns : tie.Need-returns
 unfolding withManager
