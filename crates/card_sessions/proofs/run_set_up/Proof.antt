@@ -38,5 +38,3 @@ run-set-up-spec =
     with-manager-requires
     returns
     returns-2)
-
--- x
