@@ -2,8 +2,8 @@
 //! card of six numbers, an answer as at most three lines of numbers, and the one function that
 //! takes them.
 //!
-//! What each number stands for is in `crates/host_record`, `crates/host_cards` and
-//! `crates/host_lines`. No proof reaches these declarations: the sizes and offsets below are
+//! What each number stands for is in `crates/host_record`, `crates/host_cards`, `crates/host_lines`
+//! and `crates/host_answers`. No proof reaches these declarations: the sizes and offsets below are
 //! asserted when the crate is built, and `tests/layout.rs` shows that the library has the same.
 //!
 //! A host needs this module only to store a record and to take it back, see

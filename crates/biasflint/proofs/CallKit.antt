@@ -10,15 +10,15 @@ use types.Kit.{Given}
 use denote.Laws.{Is, Tells}
 use denote.Struct.Laws as LL
 use Rattle.host_rules.specs.declared.CalledC.{CalledC}
-use Rattle.host_lines.specs.declared.AnswerC.{AnswerC}
+use Rattle.host_answers.specs.declared.AnswerC.{AnswerC}
 use Rattle.host_record.specs.declared.ManagerC.{ManagerC}
 use Rattle.host_cards.specs.declared.CallC.{CallC}
 use Rattle.host_record.proofs.ManagerC as T
 use Rattle.host_record.proofs.ManagerC.Laws as T′
 use Rattle.host_rules.proofs.CalledC as S
 use Rattle.host_rules.proofs.CalledC.Laws as S′
-use Rattle.host_lines.proofs.AnswerC as O
-use Rattle.host_lines.proofs.AnswerC.Laws as O′
+use Rattle.host_answers.proofs.AnswerC as O
+use Rattle.host_answers.proofs.AnswerC.Laws as O′
 use Rattle.host_cards.proofs.CallC as P1
 use Rattle.host_cards.proofs.CallC.Laws as P1′
 

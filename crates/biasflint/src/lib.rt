@@ -1,12 +1,12 @@
 // The library for a host in Rust or C: one call on a record that the host owns and lends.
+use host_answers::AnswerC;
+use host_answers::refused_answer;
 use host_calls::advance_c;
 use host_calls::notice_c;
 use host_calls::setup_c;
 use host_cards::CallC;
 use host_cards::is_call;
 use host_form::is_record;
-use host_lines::AnswerC;
-use host_lines::refused_answer;
 use host_outer_calls::drift_c;
 use host_outer_calls::quiet_c;
 use host_outer_calls::refresh_c;

@@ -1,13 +1,13 @@
 // Calls from the host that may change the record: set-up, a notice and advance. Every contract says that the result
 // equals a definition of host_rules/specs/Calls.
 use clock_calls::advance;
+use host_answers::AnswerC;
+use host_answers::advance_answer;
+use host_answers::notice_answer;
+use host_answers::setup_answer;
 use host_cards::CallC;
 use host_cards::lease_notice_of;
 use host_flat::flat_record;
-use host_lines::AnswerC;
-use host_lines::advance_answer;
-use host_lines::notice_answer;
-use host_lines::setup_answer;
 use host_manager::manager_of;
 use host_record::ManagerC;
 use host_rules::CalledC;

@@ -14,8 +14,8 @@ use Rattle.log.specs.Program as P
 use Rattle.log.proofs.Program.{demand-3-of-ruled}
 use Rattle.host_record.specs.declared.ManagerC.{ManagerC}
 use Rattle.host_record.specs.Flat.{flatOf}
-use Rattle.host_lines.specs.declared.AnswerC.{AnswerC}
-use Rattle.host_lines.specs.Lines.{setAnswer, countAnswer}
+use Rattle.host_answers.specs.declared.AnswerC.{AnswerC}
+use Rattle.host_answers.specs.Answers.{setAnswer, countAnswer}
 use Rattle.host_cards.specs.declared.CallC.{CallC}
 use Rattle.host_cards.specs.Cards.{isCall}
 use Rattle.host_rules.specs.declared.CalledC.{CalledC}

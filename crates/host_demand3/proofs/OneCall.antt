@@ -34,7 +34,7 @@ use Rattle.log.specs.Program.{leftBy}
 use Rattle.host_record.specs.declared.ManagerC.{ManagerC}
 use Rattle.host_record.specs.Flat.{flatOf}
 use Rattle.host_record.proofs.Laws.{there-and-back, flat-is-record}
-use Rattle.host_lines.specs.Lines.{refusedAnswer, noLines, oneLine, twoLines, linesAnswer, noticeAnswer, firedAnswer, advanceAnswer, plainAnswer, setupAnswer, setAnswer, countAnswer}
+use Rattle.host_answers.specs.Answers.{refusedAnswer, noLines, oneLine, twoLines, linesAnswer, noticeAnswer, firedAnswer, advanceAnswer, plainAnswer, setupAnswer, setAnswer, countAnswer}
 use Rattle.host_cards.specs.declared.CallC.{CallC}
 use Rattle.host_cards.specs.Cards.{isCall, leaseNoticeOf, peerSetOf, percentOf, driftSettingOf}
 use Rattle.host_cards.proofs.Percent.{fits8}

@@ -11,7 +11,7 @@ use prog.Memory.{Memory}
 use prog.Routine.{Routine}
 use prog.Wp.{Heap}
 use Rattle.host_record.specs.declared.ManagerC.{ManagerC}
-use Rattle.host_lines.specs.declared.AnswerC.{AnswerC}
+use Rattle.host_answers.specs.declared.AnswerC.{AnswerC}
 use Rattle.host_cards.specs.declared.CallC.{CallC}
 use Rattle.host_rules.specs.declared.CalledC.{CalledC}
 use Rattle.host_rules.specs.Calls.{callOf}

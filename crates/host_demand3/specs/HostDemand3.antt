@@ -14,8 +14,8 @@ use Rattle.lease.specs.Verdicts.{Call, notice, advance, quiet-start, refresh, d
 use Rattle.log.specs.Log.{Journal}
 use Rattle.log.specs.Demand3.{Balanced, grantsBy, leasesBy, countBy, runOf}
 use Rattle.host_record.specs.declared.ManagerC.{ManagerC}
-use Rattle.host_lines.specs.declared.AnswerC.{AnswerC}
-use Rattle.host_lines.specs.Lines.{setAnswer, countAnswer}
+use Rattle.host_answers.specs.declared.AnswerC.{AnswerC}
+use Rattle.host_answers.specs.Answers.{setAnswer, countAnswer}
 use Rattle.host_cards.specs.declared.CallC.{CallC}
 use Rattle.host_cards.specs.Cards.{isCall, leaseNoticeOf, peerSetOf, driftSettingOf}
 use Rattle.host_rules.specs.declared.CalledC.{CalledC}

@@ -1,2 +1,2 @@
--- How answers cross to C.
+-- How the lines of answers cross to C.
 pub mod Lines

@@ -1,24 +1,16 @@
-// Answers as the records that cross to C: plain numbers, at most three lines. Every contract says that
-// the result equals a definition of specs/Lines.antt.
+// The lines of answers as they cross to C: plain numbers. Every contract says that the result equals a definition of
+// specs/Lines.antt.
 use bitmap::Bitmap;
 use lease::AcceptBar;
-use lease::AdvanceOutcome;
-use lease::CountOutcome;
 use lease::LeaseAction;
 use lease::LeaseMsg;
 use lease::Line;
 use lease::Lines;
-use lease::NoticeOutcome;
-use lease::PlainOutcome;
-use lease::QuietEnd;
 use lease::ReplicaId;
-use lease::SetOutcome;
-use lease::SetUpOutcome;
 use lease::TimeLeft;
-use lease::TimeLeftOutcome;
 ghost use mathlib.Core.Path.{_≡_};
 ghost use Rattle.host_record.specs.Flat.{flag};
-ghost use Rattle.host_lines.specs.Lines.{lineC, noLine, sendLine, guardLine, bcastLine, actionLine, lineOf, firedLine, setLine, countLine, timeLeftLine, accepted, refusedAnswer, noLines, oneLine, twoLines, linesAnswer, noticeAnswer, firedAnswer, advanceAnswer, plainAnswer, setupAnswer, setAnswer, countAnswer, timeLeftAnswer};
+ghost use Rattle.host_lines.specs.Lines.{lineC, noLine, sendLine, guardLine, bcastLine, actionLine, lineOf, firedLine, setLine, timeLeftLine};
 
 // One line. What first and second are, and whether peer is an id, a size or a flag, goes by the code.
 #[repr(C)]
@@ -30,18 +22,6 @@ pub struct LineC {
     pub second: u64,
 }
 
-// Refused is 0, or the number of the refusal; count is how many lines there are, the others are zeros.
-#[repr(C)]
-pub struct AnswerC {
-    pub refused: u64,
-    pub count: u64,
-    pub one: LineC,
-    pub two: LineC,
-    pub three: LineC,
-}
-
-// ---- lines
-
 // A bool as a number.
 pub fn flag_of(on: bool) -> u64
     ensures { λ r. ⌜ r ≡ flag on ⌝ }
@@ -49,7 +29,7 @@ pub fn flag_of(on: bool) -> u64
     if on { 1 } else { 0 }
 }
 
-fn line_c(code: u64, number: u64, peer: u64, first: u64) -> LineC
+pub fn line_c(code: u64, number: u64, peer: u64, first: u64) -> LineC
     ensures { λ r. ⌜ r ≡ lineC code number peer first 0 ⌝ }
 {
     LineC {
@@ -131,7 +111,7 @@ pub fn line_of(line: Line) -> LineC
 }
 
 // The peers whose sent timers fired, and those whose held timers fired.
-fn fired_line(sent: Bitmap, held: Bitmap) -> LineC
+pub fn fired_line(sent: Bitmap, held: Bitmap) -> LineC
     ensures { λ r. ⌜ r ≡ firedLine sent held ⌝ }
 {
     LineC {
@@ -143,14 +123,14 @@ fn fired_line(sent: Bitmap, held: Bitmap) -> LineC
     }
 }
 
-fn set_line(set: Bitmap) -> LineC
+pub fn set_line(set: Bitmap) -> LineC
     ensures { λ r. ⌜ r ≡ setLine set ⌝ }
 {
     line_c(32, 0, set.size as u64, set.bits)
 }
 
 // Peer is 1 where a promise is held.
-fn time_left_line(left: TimeLeft) -> LineC
+pub fn time_left_line(left: TimeLeft) -> LineC
     ensures { λ r. ⌜ r ≡ timeLeftLine left ⌝ }
 {
     match left {
@@ -159,143 +139,9 @@ fn time_left_line(left: TimeLeft) -> LineC
     }
 }
 
-// ---- answers
-
-fn no_line() -> LineC
+// All zeros.
+pub fn no_line() -> LineC
     ensures { λ r. ⌜ r ≡ noLine ⌝ }
 {
     line_c(0, 0, 0, 0)
-}
-
-fn accepted_with(count: u64, one: LineC, two: LineC, three: LineC) -> AnswerC
-    ensures { λ r. ⌜ r ≡ accepted count one two three ⌝ }
-{
-    AnswerC {
-        refused: 0,
-        count,
-        one,
-        two,
-        three,
-    }
-}
-
-// Refused by that number.
-pub fn refused_answer(code: u8) -> AnswerC
-    ensures { λ r. ⌜ r ≡ refusedAnswer code ⌝ }
-{
-    let none = no_line();
-    AnswerC {
-        refused: code as u64,
-        count: 0,
-        one: none,
-        two: none,
-        three: none,
-    }
-}
-
-// Accepted, with no line.
-pub fn no_lines() -> AnswerC
-    ensures { λ r. ⌜ r ≡ noLines ⌝ }
-{
-    let none = no_line();
-    accepted_with(0, none, none, none)
-}
-
-pub fn one_line(line: LineC) -> AnswerC
-    ensures { λ r. ⌜ r ≡ oneLine line ⌝ }
-{
-    let none = no_line();
-    accepted_with(1, line, none, none)
-}
-
-fn two_lines(one: LineC, two: LineC) -> AnswerC
-    ensures { λ r. ⌜ r ≡ twoLines one two ⌝ }
-{
-    let none = no_line();
-    accepted_with(2, one, two, none)
-}
-
-fn lines_answer(lines: Lines) -> AnswerC
-    ensures { λ r. ⌜ r ≡ linesAnswer lines ⌝ }
-{
-    match lines {
-        Lines::None => no_lines(),
-        Lines::One(a) => one_line(line_of(a)),
-        Lines::Two(a, b) => two_lines(line_of(a), line_of(b)),
-        Lines::Three(a, b, c) => accepted_with(3, line_of(a), line_of(b), line_of(c)),
-    }
-}
-
-pub fn notice_answer(outcome: NoticeOutcome) -> AnswerC
-    ensures { λ r. ⌜ r ≡ noticeAnswer outcome ⌝ }
-{
-    match outcome {
-        NoticeOutcome::Refused(code) => refused_answer(code),
-        NoticeOutcome::Done(lines) => lines_answer(lines),
-    }
-}
-
-// What fired, and the quiet-end line after it, if there is one.
-fn fired_answer(sent: Bitmap, held: Bitmap, end: QuietEnd) -> AnswerC
-    ensures { λ r. ⌜ r ≡ firedAnswer sent held end ⌝ }
-{
-    let fired = fired_line(sent, held);
-    match end {
-        QuietEnd::None => one_line(fired),
-        QuietEnd::Given(line) => two_lines(fired, line_of(line)),
-    }
-}
-
-pub fn advance_answer(outcome: AdvanceOutcome) -> AnswerC
-    ensures { λ r. ⌜ r ≡ advanceAnswer outcome ⌝ }
-{
-    match outcome {
-        AdvanceOutcome::Refused(code) => refused_answer(code),
-        AdvanceOutcome::Fired(sent, held, end) => fired_answer(sent, held, end),
-    }
-}
-
-pub fn plain_answer(outcome: PlainOutcome) -> AnswerC
-    ensures { λ r. ⌜ r ≡ plainAnswer outcome ⌝ }
-{
-    match outcome {
-        PlainOutcome::Refused(code) => refused_answer(code),
-        PlainOutcome::Done => no_lines(),
-    }
-}
-
-pub fn setup_answer(outcome: SetUpOutcome) -> AnswerC
-    ensures { λ r. ⌜ r ≡ setupAnswer outcome ⌝ }
-{
-    match outcome {
-        SetUpOutcome::Refused(code) => refused_answer(code),
-        SetUpOutcome::Done => no_lines(),
-    }
-}
-
-pub fn set_answer(outcome: SetOutcome) -> AnswerC
-    ensures { λ r. ⌜ r ≡ setAnswer outcome ⌝ }
-{
-    match outcome {
-        SetOutcome::Refused(code) => refused_answer(code),
-        SetOutcome::Ids(set) => one_line(set_line(set)),
-    }
-}
-
-pub fn count_answer(outcome: CountOutcome) -> AnswerC
-    ensures { λ r. ⌜ r ≡ countAnswer outcome ⌝ }
-{
-    match outcome {
-        CountOutcome::Refused(code) => refused_answer(code),
-        CountOutcome::Count(n) => one_line(line_c(33, 0, 0, n)),
-    }
-}
-
-pub fn time_left_answer(outcome: TimeLeftOutcome) -> AnswerC
-    ensures { λ r. ⌜ r ≡ timeLeftAnswer outcome ⌝ }
-{
-    match outcome {
-        TimeLeftOutcome::Refused(code) => refused_answer(code),
-        TimeLeftOutcome::Left(left) => one_line(time_left_line(left)),
-    }
 }

@@ -1,12 +1,12 @@
 // Calls from the host: quiet start, refresh and the drift setting. Every contract says that the result equals a
 // definition of host_rules/specs/Calls.
 use clock_calls::set_drift;
+use host_answers::plain_answer;
+use host_answers::set_answer;
 use host_calls::left_by;
 use host_cards::CallC;
 use host_cards::drift_setting_of;
 use host_cards::peer_set_of;
-use host_lines::plain_answer;
-use host_lines::set_answer;
 use host_manager::manager_of;
 use host_record::ManagerC;
 use host_rules::CalledC;

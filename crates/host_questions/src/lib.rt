@@ -1,10 +1,10 @@
 // The questions from the host; the record stays as it was lent. Every contract says that the result equals a
 // definition of host_rules/specs/Calls.
+use host_answers::AnswerC;
+use host_answers::count_answer;
+use host_answers::set_answer;
+use host_answers::time_left_answer;
 use host_cards::CallC;
-use host_lines::AnswerC;
-use host_lines::count_answer;
-use host_lines::set_answer;
-use host_lines::time_left_answer;
 use host_manager::manager_of;
 use host_record::ManagerC;
 use host_rules::CalledC;

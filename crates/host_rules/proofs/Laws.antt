@@ -7,8 +7,8 @@ use Rattle.lease.specs.declared.Manager.{Manager}
 use Rattle.host_record.specs.declared.ManagerC.{ManagerC}
 use Rattle.host_record.specs.Flat.{flatOf}
 use Rattle.host_record.specs.Managers.{isRecord}
-use Rattle.host_lines.specs.declared.AnswerC.{AnswerC}
-use Rattle.host_lines.specs.Lines.{refusedAnswer}
+use Rattle.host_answers.specs.declared.AnswerC.{AnswerC}
+use Rattle.host_answers.specs.Answers.{refusedAnswer}
 use Rattle.host_cards.specs.declared.CallC.{CallC}
 use Rattle.host_cards.specs.Cards.{isCall}
 use Rattle.host_rules.specs.declared.CalledC.{CalledC}

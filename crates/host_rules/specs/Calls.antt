@@ -8,8 +8,8 @@ use Rattle.lease.specs.Rules.{noticeOf, advanceOf, quietOf, refreshOf, driftOf,
 use Rattle.host_record.specs.declared.ManagerC.{ManagerC}
 use Rattle.host_record.specs.Flat.{flatOf}
 use Rattle.host_record.specs.Managers.{managerOf, isRecord}
-use Rattle.host_lines.specs.declared.AnswerC.{AnswerC}
-use Rattle.host_lines.specs.Lines.{refusedAnswer, noticeAnswer, advanceAnswer, plainAnswer, setupAnswer, setAnswer, countAnswer, timeLeftAnswer}
+use Rattle.host_answers.specs.declared.AnswerC.{AnswerC}
+use Rattle.host_answers.specs.Answers.{refusedAnswer, noticeAnswer, advanceAnswer, plainAnswer, setupAnswer, setAnswer, countAnswer, timeLeftAnswer}
 use Rattle.host_cards.specs.declared.CallC.{CallC}
 use Rattle.host_cards.specs.Cards.{isCall, leaseNoticeOf, peerSetOf, driftSettingOf}
 use Rattle.host_rules.specs.declared.CalledC.{CalledC}

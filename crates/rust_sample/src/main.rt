@@ -7,9 +7,9 @@
 //     sent  0 none; guard 1 unarmed, 2 armed, 3 exploded; promise 8 unarmed, 4 armed, 5 exploded, and revoking 9, 6, 7
 //     held  0 none; guard 5 unarmed, 1 armed, 2 exploded; promise 6 unarmed, 3 armed, 4 exploded
 use biasflint::call;
+use host_answers::AnswerC;
 use host_cards::CallC;
 use host_flat::flat_record;
-use host_lines::AnswerC;
 use host_lines::LineC;
 use host_record::ManagerC;
 use host_record::PeerC;

@@ -43,8 +43,8 @@ use Rattle.host_record.proofs.ManagerC as T
 use Rattle.host_record.proofs.ManagerC.Laws as T′
 use Rattle.host_rules.proofs.CalledC as S
 use Rattle.host_rules.proofs.CalledC.Laws as S′
-use Rattle.host_lines.proofs.AnswerC as O
-use Rattle.host_lines.proofs.AnswerC.Laws as O′
+use Rattle.host_answers.proofs.AnswerC as O
+use Rattle.host_answers.proofs.AnswerC.Laws as O′
 use Rattle.host_cards.proofs.CallC as P1
 use Rattle.host_cards.proofs.CallC.Laws as P1′
 use Rattle.biasflint.proofs.call as core

@@ -10,7 +10,7 @@ use Rattle.biasflint.proofs.record_c.Reads as record-c-reads
 use Rattle.host_calls.proofs.setup_c.Reads as setup-c-reads
 use Rattle.host_cards.proofs.is_call.Reads as is-call-reads
 use Rattle.host_form.proofs.is_record.Reads as is-record-reads
-use Rattle.host_lines.proofs.refused_answer.Reads as refused-answer-reads
+use Rattle.host_answers.proofs.refused_answer.Reads as refused-answer-reads
 use Rattle.host_questions.proofs.kept_by.Reads as kept-by-reads
 
 is-call-requires : tie.Need-is-call-requires

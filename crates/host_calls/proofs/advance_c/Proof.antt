@@ -7,7 +7,7 @@ use Rattle.host_calls.proofs.advance_c.Reads as reads
 use Rattle.host_calls.proofs.advance_c.Lts as lts
 use Rattle.clock_calls.proofs.advance.Reads as advance-reads
 use Rattle.host_calls.proofs.left_by.Reads as left-by-reads
-use Rattle.host_lines.proofs.advance_answer.Reads as advance-answer-reads
+use Rattle.host_answers.proofs.advance_answer.Reads as advance-answer-reads
 use Rattle.host_manager.proofs.manager_of.Reads as manager-of-reads
 
 manager-of-requires : tie.Need-manager-of-requires

@@ -7,7 +7,7 @@ use Rattle.host_calls.proofs.notice_c.Reads as reads
 use Rattle.host_calls.proofs.notice_c.Lts as lts
 use Rattle.host_calls.proofs.left_by.Reads as left-by-reads
 use Rattle.host_cards.proofs.lease_notice_of.Reads as lease-notice-of-reads
-use Rattle.host_lines.proofs.notice_answer.Reads as notice-answer-reads
+use Rattle.host_answers.proofs.notice_answer.Reads as notice-answer-reads
 use Rattle.host_manager.proofs.manager_of.Reads as manager-of-reads
 use Rattle.leaseman.proofs.add_notice.Reads as add-notice-reads
 

@@ -6,7 +6,7 @@ use Rattle.host_calls.proofs.setup_c.Tie as tie
 use Rattle.host_calls.proofs.setup_c.Reads as reads
 use Rattle.host_calls.proofs.setup_c.Lts as lts
 use Rattle.host_calls.proofs.left_by.Reads as left-by-reads
-use Rattle.host_lines.proofs.setup_answer.Reads as setup-answer-reads
+use Rattle.host_answers.proofs.setup_answer.Reads as setup-answer-reads
 use Rattle.setup.proofs.new_and_setup.Reads as new-and-setup-reads
 
 new-and-setup-requires : tie.Need-new-and-setup-requires

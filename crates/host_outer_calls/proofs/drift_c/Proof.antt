@@ -8,7 +8,7 @@ use Rattle.host_outer_calls.proofs.drift_c.Lts as lts
 use Rattle.clock_calls.proofs.set_drift.Reads as set-drift-reads
 use Rattle.host_calls.proofs.left_by.Reads as left-by-reads
 use Rattle.host_cards.proofs.drift_setting_of.Reads as drift-setting-of-reads
-use Rattle.host_lines.proofs.plain_answer.Reads as plain-answer-reads
+use Rattle.host_answers.proofs.plain_answer.Reads as plain-answer-reads
 use Rattle.host_manager.proofs.manager_of.Reads as manager-of-reads
 
 manager-of-requires : tie.Need-manager-of-requires

@@ -6,7 +6,7 @@ use Rattle.host_outer_calls.proofs.quiet_c.Tie as tie
 use Rattle.host_outer_calls.proofs.quiet_c.Reads as reads
 use Rattle.host_outer_calls.proofs.quiet_c.Lts as lts
 use Rattle.host_calls.proofs.left_by.Reads as left-by-reads
-use Rattle.host_lines.proofs.plain_answer.Reads as plain-answer-reads
+use Rattle.host_answers.proofs.plain_answer.Reads as plain-answer-reads
 use Rattle.host_manager.proofs.manager_of.Reads as manager-of-reads
 use Rattle.outer_calls.proofs.assume_unknown_grants.Reads as assume-unknown-grants-reads
 

@@ -7,7 +7,7 @@ use Rattle.host_outer_calls.proofs.refresh_c.Reads as reads
 use Rattle.host_outer_calls.proofs.refresh_c.Lts as lts
 use Rattle.host_calls.proofs.left_by.Reads as left-by-reads
 use Rattle.host_cards.proofs.peer_set_of.Reads as peer-set-of-reads
-use Rattle.host_lines.proofs.set_answer.Reads as set-answer-reads
+use Rattle.host_answers.proofs.set_answer.Reads as set-answer-reads
 use Rattle.host_manager.proofs.manager_of.Reads as manager-of-reads
 use Rattle.outer_calls.proofs.attempt_refresh.Reads as attempt-refresh-reads
 

@@ -5,7 +5,7 @@ use Rattle.host_questions.proofs.grant_set_c.Statement.{statement}
 use Rattle.host_questions.proofs.grant_set_c.Tie as tie
 use Rattle.host_questions.proofs.grant_set_c.Reads as reads
 use Rattle.host_questions.proofs.grant_set_c.Lts as lts
-use Rattle.host_lines.proofs.set_answer.Reads as set-answer-reads
+use Rattle.host_answers.proofs.set_answer.Reads as set-answer-reads
 use Rattle.host_manager.proofs.manager_of.Reads as manager-of-reads
 use Rattle.host_questions.proofs.kept_by.Reads as kept-by-reads
 use Rattle.questions.proofs.grant_set.Reads as grant-set-reads

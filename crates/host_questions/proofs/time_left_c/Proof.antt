@@ -5,7 +5,7 @@ use Rattle.host_questions.proofs.time_left_c.Statement.{statement}
 use Rattle.host_questions.proofs.time_left_c.Tie as tie
 use Rattle.host_questions.proofs.time_left_c.Reads as reads
 use Rattle.host_questions.proofs.time_left_c.Lts as lts
-use Rattle.host_lines.proofs.time_left_answer.Reads as time-left-answer-reads
+use Rattle.host_answers.proofs.time_left_answer.Reads as time-left-answer-reads
 use Rattle.host_manager.proofs.manager_of.Reads as manager-of-reads
 use Rattle.host_questions.proofs.kept_by.Reads as kept-by-reads
 use Rattle.questions.proofs.time_left.Reads as time-left-reads

@@ -1,0 +1,2 @@
+-- How answers cross to C.
+pub mod Answers
