@@ -3,7 +3,7 @@
 use Prim.Native.Nat.{ℕ, zero, suc}
 use mathlib.Core.Bool.{Bool, false, cond}
 use mathlib.Core.List.{List, [], _∷_, _++_}
-use lib.Dec.{eqb}
+use lib.Dec.{eqb, leb}
 use lib.ListN.{length}
 use lib.Seq.{slice}
 use Rattle.bitmap.specs.declared.Bitmap.{Bitmap}
@@ -77,6 +77,16 @@ roomOf (O.Refused k) = 70
 roomOf O.Done = 0
 roomOf (O.Acted lines) = 210
 roomOf (O.Fired num sent held end) = 9030
+
+-- ---- writing a line by itself
+
+-- The numbers have room in the narrow columns; any number of 64 bits has in the wide ones.
+unfoldable pub lineFits : LineC → Bool
+lineFits l = cond (leb (l .code) 99) (leb (l .peer) 9999) false
+
+-- Whether so many bytes have room for the line.
+unfoldable pub canWrite : LineC → ℕ → Bool
+canWrite l room = cond (leb 70 room) (lineFits l) false
 
 -- ---- reading a line back
 

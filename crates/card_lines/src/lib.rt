@@ -15,13 +15,16 @@ use lease::Lines;
 use lease::QuietEnd;
 ghost use Prim.Native.Nat.{_+_, _<_, _≤_};
 ghost use mathlib.Core.Path.{_≡_};
+ghost use mathlib.Core.Bool.{cond};
 ghost use lib.ListN.{length};
 ghost use lib.Seq.{sets};
 ghost use Rattle.bitmap.specs.Bitmaps.{capacity};
-ghost use Rattle.card_lines.specs.Lines.{lineText, textOf, firedLine, firedLines, actionLine, actionLines, quietLines, outcomeText, roomOf, allNumbers, lineRead};
+ghost use Rattle.card_lines.specs.Lines.{lineText, textOf, firedLine, firedLines, actionLine, actionLines, quietLines, outcomeText, roomOf, lineFits, canWrite, allNumbers, lineRead};
 
-// How long a line is.
+// How long a line is, and with its newline.
 const COLUMNS: usize = 69;
+
+const LINE: usize = 70;
 
 // A line read as five numbers, if it is of the form.
 pub enum LineRead {
@@ -148,6 +151,32 @@ pub fn put_outcome(out: &mut [u8], at: usize, card: u64, outcome: CardOutcome) -
             put_quiet_end(out, end_at, end)
         }
     }
+}
+
+// Whether the numbers have room in their columns.
+fn line_fits(l: LineC) -> bool
+    ensures { λ r. ⌜ r ≡ lineFits l ⌝ }
+{
+    if l.code > 99 {
+        return false;
+    }
+    l.peer <= 9999
+}
+
+// Writes a line with its newline at the start of the bytes, and answers true; or answers false and writes nothing, where
+// the numbers have no room in their columns or the line has none in the bytes.
+pub fn write_line(l: LineC, out: &mut [u8]) -> bool
+    ensures { λ r. ⌜ r ≡ canWrite l (length (now (out .entry))) ⌝ }
+    ensures { λ r. ⌜ now (out .exit) ≡ cond (canWrite l (length (now (out .entry)))) (sets (now (out .entry)) 0 (lineText l)) (now (out .entry)) ⌝ }
+{
+    if out.len() < LINE {
+        return false;
+    }
+    if !line_fits(l) {
+        return false;
+    }
+    let _end = put_line(out, 0, l);
+    true
 }
 
 // ---- reading

@@ -1,6 +1,5 @@
 // Lines of fixed columns on standard input and output: a call is a line of 73 columns, an answer's line has 69. The
 // columns are those of event cards, read and written by `cards` and `card_lines`; the codes are the host library's.
-use card_lines::put_line;
 use cards::CardRead;
 use cards::read_card;
 use host_cards::CallC;
@@ -49,6 +48,6 @@ pub fn next_card() -> Card {
 // Writes a line.
 pub fn write_line(l: LineC) {
     let mut out = [0u8; 70];
-    let _end = put_line(&mut out, 0, l);
+    let _fits = card_lines::write_line(l, &mut out);
     let _written = io::write_all(1, &out);
 }

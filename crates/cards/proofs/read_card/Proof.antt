@@ -1,6 +1,11 @@
 -- `cards::read_card` meets its contract. Assumes nothing.
+use mathlib.Core.Path.{_≡_}
+use mathlib.Core.Bool.{cond}
 use borrow.Author.Tests.{eq-eqb, ne-eqb, not-true, not-false}
 use borrow.Author.Needs.{needs}
+use Rattle.columns.specs.Columns.{numberIn}
+use Rattle.card_events.specs.Events.{card}
+use Rattle.cards.specs.declared.CardRead.the-variants as C
 use Rattle.cards.specs.Cards.{cardRead}
 use Rattle.cards.proofs.read_card.Statement.{statement}
 use Rattle.cards.proofs.read_card.Tie as tie
@@ -30,11 +35,11 @@ field-of-requires-6 c κs = search needs
 all-numbers-requires : tie.Need-all-numbers-requires
 all-numbers-requires c κs = search needs
 
-returns-2 : tie.Need-returns-2
+-- the line is read by the six fields
+by-fields : (c : tie.After-all-numbers) → cardRead (c .before .before .before .before .before .before .before .before .before .args .line .now) ≡ cond (c .all-numbers .result) (C.Numbers (card (numberIn (c .before .before .before .before .before .before .field-of .result)) (numberIn (c .before .before .before .before .before .field-of2 .result)) (numberIn (c .before .before .before .before .field-of3 .result)) (numberIn (c .before .before .before .field-of4 .result)) (numberIn (c .before .before .field-of5 .result)) (numberIn (c .before .field-of6 .result)))) C.NotOfForm
 unfolding cardRead
-returns-2 c =
-    let all = c .before in
-    let f6 = all .before in
+by-fields c =
+    let f6 = c .before in
     let f5 = f6 .before in
     let f4 = f5 .before in
     let f3 = f4 .before in
@@ -48,9 +53,11 @@ returns-2 c =
       ← f4 .field-of4 .ensures,
       ← f5 .field-of5 .ensures,
       ← f6 .field-of6 .ensures,
-      ← all .all-numbers .ensures,
-      not-true (all .all-numbers .result) (c .if2 .taken),
+      ← c .all-numbers .ensures,
     )
+
+returns-2 : tie.Need-returns-2
+returns-2 c = simp (by-fields (c .before), not-true (c .before .all-numbers .result) (c .if2 .taken))
 
 number-in-requires : tie.Need-number-in-requires
 number-in-requires c κs = search needs
@@ -74,7 +81,6 @@ six-requires : tie.Need-six-requires
 six-requires c κs = search needs
 
 returns-3 : tie.Need-returns-3
-unfolding cardRead
 returns-3 c =
     let n6 = c .before in
     let n5 = n6 .before in
@@ -82,24 +88,10 @@ returns-3 c =
     let n3 = n4 .before in
     let n2 = n3 .before in
     let n1 = n2 .before in
-    let passed = n1 .before in
-    let all = passed .before in
-    let f6 = all .before in
-    let f5 = f6 .before in
-    let f4 = f5 .before in
-    let f3 = f4 .before in
-    let f2 = f3 .before in
-    let f1 = f2 .before in
+    let all = n1 .before .before in
     simp (
-      eq-eqb _ _ (f1 .before .if1 .left),
-      ← f1 .field-of .ensures,
-      ← f2 .field-of2 .ensures,
-      ← f3 .field-of3 .ensures,
-      ← f4 .field-of4 .ensures,
-      ← f5 .field-of5 .ensures,
-      ← f6 .field-of6 .ensures,
-      ← all .all-numbers .ensures,
-      not-false (all .all-numbers .result) (passed .if2 .left),
+      by-fields all,
+      not-false (all .all-numbers .result) (n1 .before .if2 .left),
       c .six .ensures,
       n6 .number-in6 .ensures,
       n5 .number-in5 .ensures,
