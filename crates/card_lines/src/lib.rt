@@ -34,7 +34,7 @@ pub enum LineRead {
 
 // ---- writing: each puts its lines from the index `at` on, and answers where they end
 
-pub fn put_line(out: &mut [u8], at: usize, l: LineC) -> usize
+fn put_line(out: &mut [u8], at: usize, l: LineC) -> usize
     requires { ⌜ at + 70 ≤ length (now out) ⌝ }
     ensures { λ r. ⌜ r ≡ at + length (lineText l) ⌝ }
     ensures { λ r. ⌜ now (out .exit) ≡ sets (now (out .entry)) at (lineText l) ⌝ }
