@@ -19,11 +19,12 @@ use Rattle.lease.specs.declared.Manager.{Manager}
 use Rattle.lease.specs.Rows.{rowAt, present, granted}
 use Rattle.lease.specs.Limits.{timeoutValid, populationValid, ownValid, readingValid}
 use Rattle.lease.specs.RecordCheck.{timerValid, sentGuardValid, entryValid, grantValid, quietValid, timersValid, sidesValid, rowValid, entriesEmpty, rowEmpty, rowValidAt, rowsValid, limitsValid, recordValid}
+use Rattle.lease.proofs.Tests.{both}
 use Rattle.refresh_visits.specs.Fits.{NearGrant}
 use Rattle.passes.specs.Fits.{ManagerFits}
 use Rattle.calls.specs.Fits.{NearRows}
 
--- both parts of a conjunction, and the second of a test
+-- both parts of a conjunction
 fst-of : (a b : Bool) → (a && b) ≡ true → a ≡ true
 fst-of true b e = refl
 fst-of false b e = e
@@ -31,10 +32,6 @@ fst-of false b e = e
 snd-of : (a b : Bool) → (a && b) ≡ true → b ≡ true
 snd-of true b e = e
 snd-of false b e = absurd (let z : _≡_ {A = ℕ} 0 1 = cc in omega arith)
-
-when : (a b : Bool) → cond a b false ≡ true → (a ≡ true) × (b ≡ true)
-when true b e = (refl, e)
-when false b e = absurd (let z : _≡_ {A = ℕ} 0 1 = cc in omega arith)
 
 abbrev rows : Manager → Bool
 rows m = rowsValid (m .me) (m .population) (m .now) (m .peers) capacity
@@ -60,8 +57,8 @@ fits m e =
     let b = snd-of (timeoutValid t && populationValid n) (ltb (m .me) n && readingValid (m .now)) l in
     record {
       reading = leb-true (m .now .0) maxReading (snd-of (ltb (m .me) n) (readingValid (m .now)) b);
-      timeout = leb-true t 10000000000 (when (leb 100000000 t) (leb t 10000000000) (fst-of (timeoutValid t) (populationValid n) a) .1);
-      few = leb-true n capacity (when (leb 1 n) (leb n capacity) (snd-of (timeoutValid t) (populationValid n) a) .1);
+      timeout = leb-true t 10000000000 (both (leb 100000000 t) (leb t 10000000000) (fst-of (timeoutValid t) (populationValid n) a) .1);
+      few = leb-true n capacity (both (leb 1 n) (leb n capacity) (snd-of (timeoutValid t) (populationValid n) a) .1);
       own = ltb-true (m .me) n (fst-of (ltb (m .me) n) (readingValid (m .now)) b);
     }
 
@@ -78,7 +75,7 @@ row-of own n now rows (suc k) i e h =
 
 near-timer : (now : Reading) (t : Timer) → timerValid now t ≡ true → Near now t
 near-timer now Unarmed e = tt
-near-timer now (Armed d) e = leb-true (d .0) (now .0 + farthest) (when (ltb (now .0) (d .0)) (leb (d .0) (now .0 + farthest)) e .1)
+near-timer now (Armed d) e = leb-true (d .0) (now .0 + farthest) (both (ltb (now .0) (d .0)) (leb (d .0) (now .0 + farthest)) e .1)
 near-timer now Exploded e = tt
 
 near-grant : (now : Reading) (g : Grant) → grantValid now g ≡ true → NearGrant now g

@@ -16,6 +16,7 @@ use Rattle.lease.specs.declared.LeaseMsg.{LeaseMsg}
 use Rattle.lease.specs.declared.LeaseMsg.the-variants as M
 use Rattle.lease.specs.declared.LeaseNotice.{LeaseNotice}
 use Rattle.lease.specs.declared.LeaseNotice.the-variants as N
+use Rattle.lease.proofs.Tests.{both}
 use Rattle.host_record.specs.Flat.{flag}
 use Rattle.host_record.specs.Managers.{isFlag}
 use Rattle.host_cards.specs.Cards.{peerSetOf, acceptBarOf, msgOf, leaseNoticeOf}
@@ -24,10 +25,6 @@ use Rattle.card_events.specs.Events.{card, isZero, isSet, isMsgCard, isN
 use Rattle.card_events.specs.Claims.{WrittenIsRead, ReadIsWritten}
 
 -- ---- tests
-
-both : (a b : Bool) → cond a b false ≡ true → (a ≡ true) × (b ≡ true)
-both true b e = (refl, e)
-both false b e = (e, cc)
 
 neither : (a b : Bool) → cond a false b ≡ true → (a ≡ false) × (b ≡ true)
 neither true b e = (sym e, cc)

@@ -13,6 +13,7 @@ use Rattle.lease.specs.declared.Lines.{Lines}
 use Rattle.lease.specs.declared.Lines.the-variants as L
 use Rattle.lease.specs.declared.QuietEnd.{QuietEnd}
 use Rattle.lease.specs.declared.QuietEnd.the-variants as Q
+use Rattle.lease.proofs.Tests.{both}
 use Rattle.columns.specs.Columns.{column, fieldOf, isNumber, numberIn}
 use Rattle.columns.proofs.Text.{length-column}
 use Rattle.columns.proofs.Laws.{written-is-read as column-read, read-is-written as column-written}
@@ -87,10 +88,6 @@ of-length false r l e = let z : _≡_ {A = ℕ} 0 1 = cc in absurd (omega arith)
 of-numbers : (x : Bool) (k l : LineC) → cond x (R.Numbers k) R.NotOfForm ≡ R.Numbers l → (x ≡ true) × (k ≡ l)
 of-numbers true k l e = (refl, cc)
 of-numbers false k l e = let z : _≡_ {A = ℕ} 0 1 = cc in absurd (omega arith)
-
-both : (x y : Bool) → cond x y false ≡ true → (x ≡ true) × (y ≡ true)
-both true y e = (refl, e)
-both false y e = let z : _≡_ {A = ℕ} 0 1 = cc in absurd (omega arith)
 
 -- a part that is read as a number is that number's column
 part-written : (f w : ℕ) (line : List ℕ) → f + w ≤ length line → isNumber (fieldOf (slice f (f + w) line)) ≡ true → column w (numberIn (fieldOf (slice f (f + w) line))) ≡ slice f (f + w) line

@@ -15,6 +15,7 @@ use Rattle.columns.proofs.Laws as columns
 use Rattle.columns.proofs.Parts.{slice-join, slice-whole}
 use Rattle.lease.specs.declared.LeaseNotice.{LeaseNotice}
 use Rattle.lease.specs.declared.LeaseNotice.the-variants as N
+use Rattle.lease.proofs.Tests.{both}
 use Rattle.host_cards.specs.declared.CallC.{CallC}
 use Rattle.card_events.specs.declared.Event.{Event}
 use Rattle.card_events.specs.declared.Event.the-variants as E
@@ -26,12 +27,6 @@ use Rattle.cards.specs.declared.CardRead.the-variants as C
 use Rattle.cards.specs.Cards.{cardText, allNumbers, cardIn, cardRead, eventIn, eventRead}
 use Rattle.cards.specs.Claims.{Wide, WrittenIsRead, ReadIsWritten}
 use Rattle.cards.proofs.Lines.{length-card, cut-code, cut-number, cut-peer, cut-size, cut-first, cut-second}
-
--- ---- tests
-
-both : (a b : Bool) → cond a b false ≡ true → (a ≡ true) × (b ≡ true)
-both true b e = (refl, e)
-both false b e = (e, cc)
 
 -- ---- what is written is read
 
