@@ -6,7 +6,7 @@ use mathlib.Core.List.{List, _++_}
 use native.Mathlib.Omega.{arith}
 use lib.Dec.{eqb}
 use lib.ListN.{length, length-append}
-use lib.Seq.{slice, length-slice}
+use lib.Seq.{slice}
 use borrow.Author.Tests.{eqb-true}
 use Rattle.bitmap.specs.Bitmaps.{capacity}
 use Rattle.lease.specs.declared.Lines.{Lines}
@@ -14,9 +14,9 @@ use Rattle.lease.specs.declared.Lines.the-variants as L
 use Rattle.lease.specs.declared.QuietEnd.{QuietEnd}
 use Rattle.lease.specs.declared.QuietEnd.the-variants as Q
 use Rattle.lease.proofs.Tests.{both}
-use Rattle.columns.specs.Columns.{column, fieldOf, isNumber, numberIn}
+use Rattle.columns.specs.Columns.{column, fieldOf, isNumber}
 use Rattle.columns.proofs.Text.{length-column}
-use Rattle.columns.proofs.Laws.{written-is-read as column-read, read-is-written as column-written}
+use Rattle.columns.proofs.Laws.{written-is-read as column-read, part-written}
 use Rattle.columns.proofs.Parts.{slice-before, slice-whole, slice-column, slice-join}
 use Rattle.host_lines.specs.declared.LineC.{LineC}
 use Rattle.card_events.specs.declared.CardOutcome.{CardOutcome}
@@ -88,12 +88,6 @@ of-length false r l e = let z : _≡_ {A = ℕ} 0 1 = cc in absurd (omega arith)
 of-numbers : (x : Bool) (k l : LineC) → cond x (R.Numbers k) R.NotOfForm ≡ R.Numbers l → (x ≡ true) × (k ≡ l)
 of-numbers true k l e = (refl, cc)
 of-numbers false k l e = let z : _≡_ {A = ℕ} 0 1 = cc in absurd (omega arith)
-
--- a part that is read as a number is that number's column
-part-written : (f w : ℕ) (line : List ℕ) → f + w ≤ length line → isNumber (fieldOf (slice f (f + w) line)) ≡ true → column w (numberIn (fieldOf (slice f (f + w) line))) ≡ slice f (f + w) line
-part-written f w line h e =
-    let n : length (slice f (f + w) line) ≡ w = length-slice f (f + w) line h ∙ omega arith in
-    rw n at (column-written (slice f (f + w) line) e .0)
 
 -- the parts make the line
 parts-joined : (line : List ℕ) → length line ≡ 69 → slice 0 2 line ++ slice 2 23 line ++ slice 23 27 line ++ slice 27 48 line ++ slice 48 69 line ≡ line

@@ -3,6 +3,7 @@
 use Prim.Native.Nat.{ℕ, _+_}
 use mathlib.Core.Bool.{Bool, true, false, cond, not}
 use lib.Dec.{ltb}
+use Rattle.columns.specs.Columns.{maxNumber}
 use Rattle.timer.specs.declared.Reading.{Reading}
 use Rattle.lease.specs.declared.LeaseNum.{LeaseNum}
 use Rattle.lease.specs.declared.LeaseNotice.{LeaseNotice}
@@ -30,9 +31,9 @@ use Rattle.card_events.specs.declared.CardOutcome.the-variants as O
 unfoldable pub blankSession : Session
 blankSession = record { «is_set_up» = false; cards = 0; manager = setupOf 0 0 0 0 (record { 0 = 0 }) .manager }
 
--- Cards are counted from 1; the count stops at 2 to the 64 less 1.
+-- Cards are counted from 1; the count stops at the largest number that a line can print.
 abbrev pub nextCard : ℕ → ℕ
-nextCard n = cond (ltb n 18446744073709551615) (n + 1) n
+nextCard n = cond (ltb n maxNumber) (n + 1) n
 
 -- One card more.
 unfoldable pub counted : Session → Session

@@ -1,13 +1,13 @@
 -- The two claims of specs/Claims. What is written is read: each column is cut out of the text, and read. What is read is written: each
 -- field is what its number is written as, and the fields joined are the line. Assumes nothing.
 use Prim.Native.Nat.{ℕ, suc, _+_, _-_, _^_, _≤_, _<_}
-use mathlib.Core.Path.{_≡_, refl, _∙_}
+use mathlib.Core.Path.{_≡_, refl}
 use mathlib.Core.Bool.{Bool, true, false, cond}
 use mathlib.Core.List.{List, _++_}
 use native.Mathlib.Omega.{arith}
 use lib.Dec.{eqb, leb}
 use lib.ListN.{length}
-use lib.Seq.{slice, length-slice}
+use lib.Seq.{slice}
 use borrow.Author.Tests.{eq-eqb, eqb-true, le-leb, leb-true}
 use Rattle.columns.specs.declared.Field.{Field}
 use Rattle.columns.specs.Columns.{column, maxNumber, fieldOf, isNumber, numberIn}
@@ -112,17 +112,6 @@ module _ (line : List ℕ) (long : length line ≡ 73) where
   abbrev said : ℕ → ℕ → ℕ
   said from width = numberIn (field from width)
 
-  length-field : (from width : ℕ) → from + width ≤ 73 → length (slice from (from + width) line) ≡ width
-  length-field from width h =
-      let e : from + width - from ≡ width = omega arith in
-      length-slice from (from + width) line (rw long h) ∙ e
-
-  field-is-written : (from width : ℕ) → from + width ≤ 73 → isNumber (field from width) ≡ true → column width (said from width) ≡ slice from (from + width) line
-  field-is-written from width h e = rw (length-field from width h) at (columns.read-is-written (slice from (from + width) line) e .0)
-
-  field-below : (from width : ℕ) → from + width ≤ 73 → said from width < 10 ^ width
-  field-below from width h = rw (length-field from width h) at (columns.number-below (slice from (from + width) line))
-
   join : (from to : ℕ) → from ≤ to → to ≤ 73 → slice 0 from line ++ slice from to line ≡ slice 0 to line
   join from to h k = slice-join 0 from to line (omega arith) h (rw long k)
 
@@ -135,12 +124,12 @@ module _ (line : List ℕ) (long : length line ≡ 73) where
   line-is-written e =
       let are = all-are _ _ _ _ _ _ e in
       rw (
-        field-is-written 0 2 (omega arith) (are .0),
-        field-is-written 2 21 (omega arith) (are .1),
-        field-is-written 23 4 (omega arith) (are .2),
-        field-is-written 27 4 (omega arith) (are .3),
-        field-is-written 31 21 (omega arith) (are .4),
-        field-is-written 52 21 (omega arith) (are .5),
+        columns.part-written 0 2 line (omega arith) (are .0),
+        columns.part-written 2 21 line (omega arith) (are .1),
+        columns.part-written 23 4 line (omega arith) (are .2),
+        columns.part-written 27 4 line (omega arith) (are .3),
+        columns.part-written 31 21 line (omega arith) (are .4),
+        columns.part-written 52 21 line (omega arith) (are .5),
         join 2 23 (omega arith) (omega arith),
         join 23 27 (omega arith) (omega arith),
         join 27 31 (omega arith) (omega arith),
@@ -151,8 +140,8 @@ module _ (line : List ℕ) (long : length line ≡ 73) where
 
   room : hasRoom numbers ≡ true
   room =
-      let p = field-below 23 4 (omega arith) in
-      let s = field-below 27 4 (omega arith) in
+      let p = columns.part-below 23 4 line (omega arith) in
+      let s = columns.part-below 27 4 line (omega arith) in
       rw (le-leb (said 23 4) 9999 (omega arith), le-leb (said 27 4) 9999 (omega arith))
 
   card-event : (e : Event) → eventIn (cardIn (field 0 2) (field 2 21) (field 23 4) (field 27 4) (field 31 21) (field 52 21)) ≡ R.Event e → (cardText (cardOf e) ≡ line) × (isCarried e ≡ true)

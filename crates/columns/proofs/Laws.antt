@@ -8,7 +8,7 @@ use native.Mathlib.Numerals.{add-one}
 use native.Mathlib.Omega.{arith}
 use lib.Dec.{eqb, leb}
 use lib.ListN.{length, length-append}
-use lib.Seq.{append-snoc}
+use lib.Seq.{append-snoc, slice, length-slice}
 use borrow.Author.Tests.{eqb-true, eqb-false, ne-eqb, leb-true, le-leb}
 use Rattle.columns.specs.declared.Field.{Field}
 use Rattle.columns.specs.declared.Field.the-variants as F
@@ -207,3 +207,17 @@ from-below (b ∷ bs) f k l =
 pub number-below : (bs : List ℕ) → numberIn (fieldFrom F.Blank bs) < 10 ^ length bs
 unfolding numberIn
 number-below bs = rw (← zero-add (length bs)) (from-below bs F.Blank 0 (omega arith))
+
+-- ---- a part of a line that is read as a number
+
+module _ (f w : ℕ) (line : List ℕ) (h : f + w ≤ length line) where
+  length-part : length (slice f (f + w) line) ≡ w
+  length-part = length-slice f (f + w) line h ∙ omega arith
+
+  -- it is that number's column
+  pub part-written : isNumber (fieldFrom F.Blank (slice f (f + w) line)) ≡ true → column w (numberIn (fieldFrom F.Blank (slice f (f + w) line))) ≡ slice f (f + w) line
+  part-written e = rw length-part at (read-is-written (slice f (f + w) line) e .0)
+
+  -- and has no more digits than columns
+  pub part-below : numberIn (fieldFrom F.Blank (slice f (f + w) line)) < 10 ^ w
+  part-below = rw length-part at (number-below (slice f (f + w) line))
