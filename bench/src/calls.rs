@@ -113,7 +113,8 @@ fn message_kind(msg: LeaseMsg) -> (u64, u64) {
 
 fn answer(lines: &[LineC]) -> AnswerC {
     let at = |i: usize| lines.get(i).copied().unwrap_or_default();
-    AnswerC { refused: 0, count: lines.len() as u64, one: at(0), two: at(1), three: at(2) }
+    let count = lines.len() as u64;
+    AnswerC { count, one: at(0), two: at(1), three: at(2), ..AnswerC::default() }
 }
 
 fn or_refused(answer: Result<AnswerC, Refusal>) -> AnswerC {
@@ -128,10 +129,11 @@ fn of_actions(lines: &[Line]) -> AnswerC {
 fn of_advance(fired: Advanced) -> AnswerC {
     let sets =
         LineC { code: 31, first: fired.sent.bits(), second: fired.held.bits(), ..LineC::default() };
-    match fired.quiet_end {
+    let lines = match fired.quiet_end {
         None => answer(&[sets]),
         Some(line) => answer(&[sets, line_of(&line)]),
-    }
+    };
+    AnswerC { fired: fired.fired.into(), ..lines }
 }
 
 fn of_set(set: Bitmap) -> AnswerC {

@@ -61,7 +61,15 @@ pub fn all(population: usize) -> Vec<Case> {
         room.case("notice refused, peer not known", granted(), room.unknown(), Nothing),
         room.case("lease_set", granted(), vec![Call::LeaseSet; 64], Manager),
         room.case(ADVANCE, granted(), room.small_steps(), Clock),
+        room.case("advance, one timer due", room.one_short(), vec![room.at_the_end()], Nothing),
         room.case("advance, all timers due", granted(), vec![room.at_the_end()], timers),
+        room.case("advance, all due, one by one", room.in_turn(), vec![room.much_later()], Nothing),
+        room.case(
+            "advance, all due, in reverse",
+            room.in_reverse(),
+            vec![room.much_later()],
+            Nothing,
+        ),
         Case { units: 1, ..timeouts },
     ]
 }
@@ -127,7 +135,47 @@ impl Room {
         calls
     }
 
+    /// The same, put off by 1 s but for what is held from the first peer.
+    fn one_short(&self) -> Vec<Call> {
+        let mut calls = self.granted();
+        calls.push(self.later(1_000));
+        calls.extend(self.each_sends(&[LeaseMsg::PromiseReply { held: true }]));
+        calls.extend(self.peers().skip(1).map(|peer| recv(NUM, peer, LeaseMsg::Promise)));
+        calls
+    }
+
+    /// Every timer armed for T, each a ms after the one before: the sent ones by id, then the held.
+    fn in_turn(&self) -> Vec<Call> {
+        self.one_by_one([LeaseMsg::PromiseReply { held: true }, LeaseMsg::Promise], false)
+    }
+
+    /// The other way round: the last that is armed is the first of an order by side and id.
+    fn in_reverse(&self) -> Vec<Call> {
+        self.one_by_one([LeaseMsg::Promise, LeaseMsg::PromiseReply { held: true }], true)
+    }
+
+    fn one_by_one(&self, msgs: [LeaseMsg; 2], reverse: bool) -> Vec<Call> {
+        let mut peers: Vec<ReplicaId> = self.peers().collect();
+        if reverse {
+            peers.reverse();
+        }
+        let mut calls = self.granted();
+        let each = msgs.iter().flat_map(|&msg| peers.iter().map(move |&peer| (peer, msg)));
+        for (ms, (peer, msg)) in (1..).zip(each) {
+            calls.extend([self.later(ms), recv(NUM, peer, msg)]);
+        }
+        calls
+    }
+
     // ---- lists
+
+    fn later(&self, ms: u64) -> Call {
+        Call::Advance(Reading(self.set_up.now + ms * MS))
+    }
+
+    fn much_later(&self) -> Call {
+        Call::Advance(Reading(self.set_up.now + 2 * T))
+    }
 
     fn promises(&self, num: LeaseNum, count: usize) -> Vec<Call> {
         self.peers().cycle().take(count).map(|peer| recv(num, peer, LeaseMsg::Promise)).collect()

@@ -5,8 +5,8 @@ use std::time::Duration;
 
 use crate::notices::whole_ns;
 use crate::raw::{AnswerC, CallC, LineC};
-use crate::{Actions, Advanced, Bar, Bitmap, DriftSetting, LeaseAction, LeaseMsg, LeaseNotice};
-use crate::{LeaseNum, Line, Reading, Refusal, ReplicaId};
+use crate::{Actions, Advanced, Bar, Bitmap, DriftSetting, Fired, LeaseAction, LeaseMsg};
+use crate::{LeaseNotice, LeaseNum, Line, Reading, Refusal, ReplicaId};
 
 // ---- cards
 
@@ -117,12 +117,13 @@ pub(crate) fn actions(answer: AnswerC, population: usize) -> Actions {
     Actions::of(lines.into_iter().take(count).map(|l| action(l, population)))
 }
 
-/// What fired, and the quiet-end line after it.
+/// What fired, in order too, and the quiet-end line after it.
 pub(crate) fn advanced(answer: AnswerC, population: usize) -> Advanced {
     let fired = only(answer.one, 31);
     Advanced {
         sent: Bitmap::from_bits(population, fired.first),
         held: Bitmap::from_bits(population, fired.second),
+        fired: Fired::from(answer.fired),
         quiet_end: (answer.count == 2).then(|| action(answer.two, population)),
     }
 }

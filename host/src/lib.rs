@@ -20,6 +20,6 @@ mod refusal;
 
 pub use bitmap::{Bitmap, BitmapError, CAPACITY, Ones};
 pub use manager::LeaseManager;
-pub use notices::{Actions, Advanced, Bar, DriftSetting, LeaseAction, LeaseMsg, LeaseNotice};
-pub use notices::{LeaseNum, Line, Reading, ReplicaId};
+pub use notices::{Actions, Advanced, Bar, DriftSetting, Fired, FiredTimer, LeaseAction};
+pub use notices::{LeaseMsg, LeaseNotice, LeaseNum, Line, Reading, ReplicaId};
 pub use refusal::Refusal;

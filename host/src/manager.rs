@@ -157,7 +157,7 @@ impl LeaseManager {
         Ok(cards::actions(answer, self.record.population))
     }
 
-    /// Sets the clock, and tells which timers fired: each timer that is due fires once. The host
+    /// Sets the clock, and tells which timers fired, in order: each timer that is due fires once. The host
     /// adds the [timeout notices](Advanced::timeouts) under the active number, now or later.
     ///
     /// # Errors

@@ -8,6 +8,7 @@ use std::slice;
 use std::time::Duration;
 
 use crate::Bitmap;
+use crate::raw::{FiredTimerC, FiredTimersC};
 
 /// A controller's id. Wider than the u8 of the Rust it follows, so that an id is judged as it was
 /// written: 300 is refused as 300, and never cut to the 44 that a u8 would make of it.
@@ -251,6 +252,98 @@ impl fmt::Debug for Actions {
     }
 }
 
+/// A timer that fired.
+#[derive(Clone, Copy, Debug, PartialEq, Eq, Hash)]
+pub enum FiredTimer {
+    /// The timer of a guard or a promise sent to a peer.
+    Sent {
+        /// To whom.
+        peer: ReplicaId,
+    },
+    /// The timer of a guard or a promise held from a peer.
+    Held {
+        /// From whom.
+        peer: ReplicaId,
+    },
+}
+
+impl FiredTimer {
+    /// The timeout notice that the timer is for.
+    #[must_use]
+    pub const fn timeout(self) -> LeaseNotice {
+        match self {
+            FiredTimer::Sent { peer } => LeaseNotice::GrantTimeout { peer },
+            FiredTimer::Held { peer } => LeaseNotice::LeaseTimeout { peer },
+        }
+    }
+
+    const fn of(timer: FiredTimerC) -> FiredTimer {
+        let peer = timer.id as ReplicaId;
+        if timer.held == 0 { FiredTimer::Sent { peer } } else { FiredTimer::Held { peer } }
+    }
+}
+
+/// The timers that fired, in order: by deadline, earliest first; at equal deadlines sent before
+/// held; then by id. Two for each id at the most, and none of them on the heap.
+///
+/// ```
+/// use biasflint::{FiredTimer, LeaseManager, LeaseMsg, LeaseNotice, LeaseNum, Reading};
+/// use std::time::Duration;
+///
+/// // Controller 0 of 3, T = 1 s. A guard from peer 2 comes first, one from peer 1 after it.
+/// let (t, hb) = (Duration::from_secs(1), Duration::from_millis(100));
+/// let mut manager = LeaseManager::new_and_setup(0, 3, t, hb, Reading(0))?;
+/// for peer in [2, 1] {
+///     let notice = LeaseNotice::RecvLeaseMsg { peer, msg: LeaseMsg::Guard { accept_bar: None } };
+///     manager.add_notice(LeaseNum(1), notice)?;
+///     manager.advance(Reading(manager.now().0 + 1))?;
+/// }
+/// let fired = manager.advance(Reading::after(2 * t))?.fired;
+/// assert!(fired.iter().eq([FiredTimer::Held { peer: 2 }, FiredTimer::Held { peer: 1 }]));
+/// # Ok::<(), biasflint::Refusal>(())
+/// ```
+#[derive(Clone, Copy, PartialEq, Eq)]
+pub struct Fired {
+    list: FiredTimersC,
+}
+
+impl Fired {
+    /// How many timers fired.
+    #[must_use]
+    pub fn len(&self) -> usize {
+        self.list.count.min(self.list.timers.len())
+    }
+
+    /// Whether none fired.
+    #[must_use]
+    pub fn is_empty(&self) -> bool {
+        self.len() == 0
+    }
+
+    /// The timers, in order.
+    pub fn iter(&self) -> impl Iterator<Item = FiredTimer> + use<> {
+        self.list.timers.into_iter().take(self.len()).map(FiredTimer::of)
+    }
+}
+
+impl From<FiredTimersC> for Fired {
+    fn from(list: FiredTimersC) -> Fired {
+        Fired { list }
+    }
+}
+
+impl From<Fired> for FiredTimersC {
+    fn from(fired: Fired) -> FiredTimersC {
+        fired.list
+    }
+}
+
+impl fmt::Debug for Fired {
+    fn fmt(&self, f: &mut fmt::Formatter<'_>) -> fmt::Result {
+        f.debug_list().entries(self.iter()).finish()
+    }
+}
+
 /// What an advance of the clock brought. A timer fires once.
 #[derive(Clone, Copy, Debug, PartialEq, Eq)]
 pub struct Advanced {
@@ -258,31 +351,31 @@ pub struct Advanced {
     pub sent: Bitmap,
     /// The peers whose held timers fired.
     pub held: Bitmap,
+    /// Exactly those timers, each once, in order.
+    pub fired: Fired,
     /// Where quiet time ended: a line under number 0 by which those who wait for a change of the
     /// grant set look at it again.
     pub quiet_end: Option<Line>,
 }
 
 impl Advanced {
-    /// The timeout notices of the timers that fired: to be added under the active number, in any
-    /// order and at any later time.
+    /// The timeout notices of the timers that fired, in their order: to be added under the active
+    /// number, in any order and at any later time.
     ///
     /// ```
-    /// use biasflint::{Advanced, Bitmap, LeaseNotice};
+    /// use biasflint::{LeaseManager, LeaseMsg, LeaseNotice, LeaseNum, Reading};
+    /// use std::time::Duration;
     ///
-    /// let (sent, held) = (Bitmap::from_ids(3, [1])?, Bitmap::from_ids(3, [2])?);
-    /// let fired = Advanced { sent, held, quiet_end: None };
-    /// assert!(fired.timeouts().eq([
-    ///     LeaseNotice::GrantTimeout { peer: 1 },
-    ///     LeaseNotice::LeaseTimeout { peer: 2 },
-    /// ]));
-    /// # Ok::<(), biasflint::BitmapError>(())
+    /// let (t, hb) = (Duration::from_secs(1), Duration::from_millis(100));
+    /// let mut manager = LeaseManager::new_and_setup(0, 3, t, hb, Reading(0))?;
+    /// let guard = LeaseMsg::Guard { accept_bar: None };
+    /// manager.add_notice(LeaseNum(1), LeaseNotice::RecvLeaseMsg { peer: 2, msg: guard })?;
+    /// let advanced = manager.advance(Reading::after(t))?;
+    /// assert!(advanced.timeouts().eq([LeaseNotice::LeaseTimeout { peer: 2 }]));
+    /// # Ok::<(), biasflint::Refusal>(())
     /// ```
     pub fn timeouts(&self) -> impl Iterator<Item = LeaseNotice> + use<> {
-        let sent = self.sent.ones();
-        let held = self.held.ones();
-        let sent = sent.map(|peer| LeaseNotice::GrantTimeout { peer });
-        sent.chain(held.map(|peer| LeaseNotice::LeaseTimeout { peer }))
+        self.fired.iter().map(FiredTimer::timeout)
     }
 }
 

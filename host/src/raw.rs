@@ -1,9 +1,9 @@
 //! The C ABI of the proved library as it is: the record that the host owns and lends, a call as a
-//! card of six numbers, an answer as at most three lines of numbers, and the one function that
-//! takes them.
+//! card of six numbers, an answer as at most three lines of numbers with the timers that fired, and
+//! the one function that takes them.
 //!
 //! What each number stands for is in `crates/host_record`, `crates/host_cards`, `crates/host_lines`
-//! and `crates/host_answers`. No proof reaches these declarations: the sizes and offsets below are
+//! and `crates/host_answers`, of fired timers in `crates/lease`. No proof reaches these declarations: the sizes and offsets below are
 //! asserted when the crate is built, and `tests/layout.rs` shows that the library has the same.
 //!
 //! A host needs this module only to store a record and to take it back, see
@@ -126,7 +126,40 @@ pub struct LineC {
     pub second: u64,
 }
 
-/// An answer: at most three lines. Those that do not count are zeros.
+/// A timer that fired.
+#[repr(C)]
+#[derive(Clone, Copy, Debug, Default, PartialEq, Eq)]
+pub struct FiredTimerC {
+    /// 1 for a held timer, 0 for a sent one.
+    pub held: u8,
+    /// Whose.
+    pub id: u8,
+}
+
+/// The timers that fired, in order. Those that do not count are zeros.
+#[repr(C)]
+#[derive(Clone, Copy, Debug, PartialEq, Eq)]
+pub struct FiredTimersC {
+    /// How many of the timers count.
+    pub count: usize,
+    /// The timers: room for two of each of 64 ids.
+    pub timers: [FiredTimerC; 128],
+}
+
+impl FiredTimersC {
+    /// No timer.
+    pub const NONE: FiredTimersC =
+        FiredTimersC { count: 0, timers: [FiredTimerC { held: 0, id: 0 }; 128] };
+}
+
+impl Default for FiredTimersC {
+    fn default() -> FiredTimersC {
+        FiredTimersC::NONE
+    }
+}
+
+/// An answer: at most three lines, and what an advance made fire. Lines that do not count are
+/// zeros.
 #[repr(C)]
 #[derive(Clone, Copy, Debug, Default, PartialEq)]
 pub struct AnswerC {
@@ -140,6 +173,8 @@ pub struct AnswerC {
     pub two: LineC,
     /// The third line.
     pub three: LineC,
+    /// The timers that fired: none but by an accepted advance.
+    pub fired: FiredTimersC,
 }
 
 // The library is built for 64 bits: an id crosses whole, in a card and in the record.
@@ -193,12 +228,22 @@ const _: () = {
 };
 
 const _: () = {
-    assert!(size_of::<AnswerC>() == 136 && align_of::<AnswerC>() == 8);
+    assert!(size_of::<FiredTimerC>() == 2 && align_of::<FiredTimerC>() == 1);
+    assert!(offset_of!(FiredTimerC, held) == 0);
+    assert!(offset_of!(FiredTimerC, id) == 1);
+    assert!(size_of::<FiredTimersC>() == 264 && align_of::<FiredTimersC>() == 8);
+    assert!(offset_of!(FiredTimersC, count) == 0);
+    assert!(offset_of!(FiredTimersC, timers) == 8);
+};
+
+const _: () = {
+    assert!(size_of::<AnswerC>() == 400 && align_of::<AnswerC>() == 8);
     assert!(offset_of!(AnswerC, refused) == 0);
     assert!(offset_of!(AnswerC, count) == 8);
     assert!(offset_of!(AnswerC, one) == 16);
     assert!(offset_of!(AnswerC, two) == 56);
     assert!(offset_of!(AnswerC, three) == 96);
+    assert!(offset_of!(AnswerC, fired) == 136);
 };
 
 unsafe extern "C" {

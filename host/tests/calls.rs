@@ -5,7 +5,7 @@ mod common;
 use std::time::Duration;
 
 use biasflint::LeaseMsg::{Guard, GuardReply, Promise, PromiseReply, Revoke, RevokeReply};
-use biasflint::{Advanced, Bar, Bitmap, DriftSetting, LeaseAction, LeaseManager, LeaseMsg};
+use biasflint::{Bar, Bitmap, DriftSetting, FiredTimer, LeaseAction, LeaseManager, LeaseMsg};
 use biasflint::{LeaseNotice, LeaseNum, Reading};
 use common::{GUARD, NEW_GRANTS, T, gives, ms, recv, send, set_up, set_up_of};
 
@@ -96,9 +96,12 @@ fn timeouts() {
     grant(&mut m);
     gives(&mut m, NUM, recv(peer, GUARD), &[send(peer, GuardReply)]);
     let fired = m.advance(Reading::after(2 * T)).unwrap();
-    let want = Advanced { sent: last(), held: last(), quiet_end: None };
-    assert_eq!(fired, want);
-    let told = [LeaseAction::GrantTimeout { peer }, LeaseAction::LeaseTimeout { peer }];
+    // The held guard was for T, the sent promise is for 2T.
+    let in_order = [FiredTimer::Held { peer }, FiredTimer::Sent { peer }];
+    assert_eq!((fired.sent, fired.held, fired.quiet_end), (last(), last(), None));
+    assert!(fired.fired.iter().eq(in_order) && fired.fired.len() == 2);
+    assert_eq!(format!("{:?}", fired.fired), format!("{in_order:?}"));
+    let told = [LeaseAction::LeaseTimeout { peer }, LeaseAction::GrantTimeout { peer }];
     for (notice, action) in fired.timeouts().zip(told) {
         gives(&mut m, NUM, notice, &[action]);
     }
@@ -106,6 +109,7 @@ fn timeouts() {
     let none = Bitmap::new(64, false);
     let fired = m.advance(Reading::after(3 * T)).unwrap();
     assert_eq!((fired.sent, fired.held), (none, none));
+    assert!(fired.fired.is_empty());
 }
 
 #[test]

@@ -4,7 +4,7 @@
 
 use std::mem::{offset_of, size_of};
 
-use biasflint::raw::{self, AnswerC, CallC, LineC, ManagerC, PeerC};
+use biasflint::raw::{self, AnswerC, CallC, FiredTimerC, FiredTimersC, LineC, ManagerC, PeerC};
 
 const ME: u64 = 5;
 const NOW: u64 = 7_000_000_000;
@@ -111,7 +111,8 @@ fn line(code: u64, number: u64, peer: u64, first: u64, second: u64) -> LineC {
 
 fn lines(given: &[LineC]) -> AnswerC {
     let at = |i: usize| given.get(i).copied().unwrap_or_default();
-    AnswerC { refused: 0, count: given.len() as u64, one: at(0), two: at(1), three: at(2) }
+    let count = given.len() as u64;
+    AnswerC { count, one: at(0), two: at(1), three: at(2), ..AnswerC::default() }
 }
 
 fn refused(number: u64) -> AnswerC {
@@ -138,8 +139,21 @@ fn set(size: u64, bits: u64) -> AnswerC {
     lines(&[line(32, 0, size, bits, 0)])
 }
 
+fn timers(given: &[(u8, u8)]) -> FiredTimersC {
+    let mut list = FiredTimersC { count: given.len(), ..FiredTimersC::NONE };
+    for (place, &(held, id)) in list.timers.iter_mut().zip(given) {
+        *place = FiredTimerC { held, id };
+    }
+    list
+}
+
+// The timers of both sets fired at one deadline: sent before held, each by id.
 fn fired(sent: u64, held: u64) -> AnswerC {
-    lines(&[line(31, 0, 0, sent, held)])
+    let of = |is_held: u8, set: u64| {
+        (0..64).filter(move |id| set >> id & 1 == 1).map(move |id| (is_held, id))
+    };
+    let in_order: Vec<_> = of(0, sent).chain(of(1, held)).collect();
+    AnswerC { fired: timers(&in_order), ..lines(&[line(31, 0, 0, sent, held)]) }
 }
 
 // The answer after those writes, on any padding. A refused call leaves every byte of a field.
@@ -407,6 +421,41 @@ fn fields_of_an_answer_are_read() {
         deadline!(40, guard_held_at, due),
     ];
     check("two sets", &timers, advance(due), fired(1 << 2, 1 << 40));
+}
+
+// Every timer that can be there fires: all of the list's places but the own id's two are read.
+#[test]
+fn every_fired_timer_is_listed() {
+    let peers: Vec<usize> = (0..64).filter(|r| *r != ME as usize).collect();
+    let all = peers.iter().fold(0, |set, r| set | 1 << r);
+    let at = |deadline: &dyn Fn(usize) -> [u64; 2]| -> Vec<Write> {
+        let row = |&r: &usize| {
+            let [sent, held] = deadline(r);
+            [
+                tag!(r, promise_sent, 2),
+                deadline!(r, promise_sent_at, sent),
+                tag!(r, promise_held, 2),
+                deadline!(r, promise_held_at, held),
+            ]
+        };
+        peers.iter().flat_map(row).collect()
+    };
+    let want = |given: &[(u8, u8)]| AnswerC { fired: timers(given), ..fired(all, all) };
+    let ids = || peers.iter().map(|r| *r as u8);
+
+    let together = at(&|_| [NOW + 9, NOW + 9]);
+    check("all at once", &together, advance(NOW + 9), fired(all, all));
+    // The last id first, and of each id the held timer first.
+    let reversed = at(&|r| [NOW + 200 - 2 * r as u64, NOW + 199 - 2 * r as u64]);
+    let last_first: Vec<_> = ids().rev().flat_map(|id| [(1, id), (0, id)]).collect();
+    check("one by one", &reversed, advance(NOW + 300), want(&last_first));
+    // At equal deadlines sent before held, then by id.
+    let paired = at(&|r| [NOW + 9 + r as u64 / 32, NOW + 9 + r as u64 / 32]);
+    let half =
+        |held: u8, low: bool| ids().filter(move |id| (*id < 32) == low).map(move |id| (held, id));
+    let halves: Vec<_> =
+        half(0, true).chain(half(1, true)).chain(half(0, false)).chain(half(1, false)).collect();
+    check("in two parts", &paired, advance(NOW + 10), want(&halves));
 }
 
 #[test]

@@ -2,6 +2,7 @@
 //! a call.
 use crate::answer;
 use crate::call::{Call, Ids, LARGEST_READING, MS, Msg, Notice, PeerSet};
+use crate::fired::{self, Timer};
 use crate::state::{ARMED, EXPLODED, deadlines, rows};
 use biasflint::raw::{AnswerC, ManagerC, PeerC};
 
@@ -80,6 +81,9 @@ events! {
     FiresGuard "explosion of a held guard",
     FiresPromise "explosion of a held promise",
     FiresMany "advance: more than two explosions",
+    OrderDeadlines "fired timers: one behind another by its deadline alone",
+    OrderSides "fired timers: sent before held at equal deadlines",
+    OrderIds "fired timers: by id at equal deadlines of one side",
     QuietEnds "quiet time ends",
     QuietEndsFires "quiet time ends together with explosions",
     TwoBefore "reading exactly 2 ms before a deadline",
@@ -153,7 +157,10 @@ impl Counts {
     pub fn observe(&mut self, b: &ManagerC, a: &ManagerC, call: &Call, answer: &AnswerC) {
         match call {
             Call::SetUp(_) | Call::LeaseCnt => {}
-            Call::Advance(reading) => self.advance(b, a, *reading),
+            Call::Advance(reading) => {
+                self.advance(b, a, *reading);
+                self.order(&fired::by_record(b, answer.one.first, answer.one.second));
+            }
             Call::Notice(num, notice) => self.notice(b, a, *num, notice),
             Call::Quiet => self.quiet(b, a),
             Call::Refresh(peers) => self.refresh(b, a, *peers),
@@ -272,6 +279,16 @@ impl Counts {
             self.met(Event::ReplyTrue);
             self.met_if(Event::ReplyTrueShorter, a.promise_sent_at < b.promise_sent_at);
             self.met_if(Event::ReplyTrueMarked, b.refresh_mark > 0);
+        }
+    }
+
+    // Neighbours in the list: what puts the one before the other.
+    fn order(&mut self, timers: &[Timer]) {
+        for pair in timers.windows(2) {
+            let ((d, x_held, x), (e, y_held, y)) = (pair[0], pair[1]);
+            self.met_if(Event::OrderDeadlines, d < e && (x_held, x) > (y_held, y));
+            self.met_if(Event::OrderSides, d == e && x_held < y_held);
+            self.met_if(Event::OrderIds, d == e && x_held == y_held);
         }
     }
 

@@ -6,7 +6,9 @@
 //! - `run` draws calls at random, puts them to both and compares every answer and state. Mode `wide`
 //!   keeps readings 2 ms away from deadlines, `near` 1 ns before and 1 ms after them, `whole` has all
 //!   times in whole ms and readings on the deadlines; `drift` and `bitmap` compare the leaves. It
-//!   stops at the first difference, prints the calls that lead to it, and fails.
+//!   stops at the first difference, prints the calls that lead to it, and fails. The list of fired
+//!   timers is held to an order worked out from the Rust's deadlines, and the order in which they
+//!   fire there to what deadlines a ms or more apart allow.
 //! - `record` prints the calls that `run` would put to the oracle; with `--few`, of few ids.
 //! - `choose` prints a short list of calls in which every event of `run` is met that many times.
 //! - `sample` reads pairs of lines, a call and the oracle's answer with its state, and writes them in
@@ -20,6 +22,7 @@ mod call;
 mod cards;
 mod choose;
 mod events;
+mod fired;
 mod generate;
 mod judge;
 mod leaf_runs;

@@ -1,5 +1,6 @@
 //! The oracle as a process: calls go into its standard input in batches, and a thread compares what
 //! comes out with what is expected, line by line.
+use crate::fired;
 use crate::text;
 use std::io::{self, BufRead, BufReader, Write};
 use std::process::{Child, ChildStdin, ChildStdout, Command, Stdio, exit};
@@ -8,7 +9,7 @@ use std::sync::mpsc::{Receiver, SyncSender, sync_channel};
 use std::thread::{self, JoinHandle};
 
 /// Calls and the answers that are expected, a line each. An answer that ends in `*` is compared up
-/// to there.
+/// to there; one that begins with `order~` says which timers fired, and when they were due.
 #[derive(Default)]
 pub struct Batch {
     pub calls: Vec<u8>,
@@ -46,6 +47,9 @@ fn without_newline(line: &[u8]) -> &[u8] {
 }
 
 fn agree(expected: &[u8], got: &[u8]) -> bool {
+    if let Some(timers) = expected.strip_prefix(fired::ORDER.as_bytes()) {
+        return fired::agrees(timers, got);
+    }
     match expected.strip_suffix(b"*") {
         Some(start) => got.starts_with(start),
         None => expected == got,

@@ -15,6 +15,8 @@ pub enum Line<'a> {
     Drifted(u64, Option<i8>),
     Sets(SetCall),
     State,
+    /// The order in which the timers of the last advance fired.
+    Order,
     Call(Call),
     /// No line of the protocol: a set-up, a line of the leaves, or any other.
     BadSetUp,
@@ -167,6 +169,7 @@ pub fn line(text: &str) -> Line<'_> {
         Some("b") => sets(&w).map_or(Line::BadLeaf, Line::Sets),
         Some("U") => setup(&w).map_or(Line::BadSetUp, Line::Call),
         Some("Z") => Line::State,
+        Some("O") => Line::Order,
         Some(_) => call(&w).map_or(Line::Bad, Line::Call),
     }
 }

@@ -2,6 +2,7 @@
 //! the program crates/rust_sample prints (the head of its main.rt says what each line is).
 use crate::answer::ACTIONS;
 use crate::call::{Call, Ids};
+use crate::fired;
 use crate::parse::{self, Line};
 use biasflint::raw::LineC;
 use std::fs::File;
@@ -162,17 +163,41 @@ fn rows(gs: &str, gh: &str, ps: &str, ph: &str, marks: &str) -> Option<[Row; 64]
 }
 
 // Line 40, and a line 41 for each id with anything in its row.
-fn state_lines(state: &str) -> Option<Vec<LineC>> {
+fn values(state: &str) -> Option<[&str; 8]> {
     let names = ["now=", "num=", "gs=", "gh=", "ps=", "ph=", "m=", "q="];
-    let parts: Vec<&str> = state.split(' ').collect();
-    let value = |i: usize| parts.get(i)?.strip_prefix(names[i]);
-    let quiet = if value(7)? == "-" { 0 } else { value(7)?.parse().ok()? };
-    let mut lines = vec![line(40, value(1)?.parse().ok()?, 0, value(0)?.parse().ok()?, quiet)];
-    let rows = rows(value(2)?, value(3)?, value(4)?, value(5)?, value(6)?)?;
-    for (id, row) in rows.iter().enumerate().filter(|(_, row)| row.tag > 0) {
+    let mut values = [""; 8];
+    let mut parts = state.split(' ');
+    for (value, name) in values.iter_mut().zip(names) {
+        *value = parts.next()?.strip_prefix(name)?;
+    }
+    Some(values)
+}
+
+fn rows_of(state: &str) -> Option<[Row; 64]> {
+    let [_, _, gs, gh, ps, ph, marks, _] = values(state)?;
+    rows(gs, gh, ps, ph, marks)
+}
+
+fn state_lines(state: &str) -> Option<Vec<LineC>> {
+    let [now, num, .., quiet] = values(state)?;
+    let quiet = if quiet == "-" { 0 } else { quiet.parse().ok()? };
+    let mut lines = vec![line(40, num.parse().ok()?, 0, now.parse().ok()?, quiet)];
+    for (id, row) in rows_of(state)?.iter().enumerate().filter(|(_, row)| row.tag > 0) {
         lines.push(line(41, row.tag, id as u64, row.sent_at, row.held_at));
     }
     Some(lines)
+}
+
+// ---- fired timers
+
+// Line 31's two sets as lines 14 and 15 under a number, in order: by the deadlines of the state
+// before the advance.
+fn by_timer(l: &LineC, num: u64, before: &str) -> Option<Vec<LineC>> {
+    let rows = rows_of(before)?;
+    let at = |held, id: usize| if held { rows[id].held_at } else { rows[id].sent_at };
+    let timers = fired::in_order(l.first, l.second, at);
+    let line = |(_, held, id)| line(if held { 15 } else { 14 }, num, id as u64, 0, 0);
+    Some(timers.into_iter().map(line).collect())
 }
 
 // ---- as the program replay prints them
@@ -181,22 +206,24 @@ fn show(l: &LineC) -> Option<String> {
     columns(&[l.code, l.number, l.peer, l.first, l.second], &ANSWER)
 }
 
-// Line 31's two sets as lines 14 and 15, under the active number.
-fn by_timer(l: &LineC, active: u64) -> Vec<LineC> {
-    let of = |code: u64, set: u64| {
-        let ids = (0..64u64).filter(move |id| set >> id & 1 == 1);
-        ids.map(move |id| line(code, active, id, 0, 0))
-    };
-    of(14, l.first).chain(of(15, l.second)).collect()
+/// The state of an answer; none where there is none.
+pub fn state_of(answer: &str) -> &str {
+    answer.split_once(" | ").map_or("", |(_, state)| state)
 }
 
-/// The oracle's answer to a card that was accepted, as the lines that `replay` prints.
-pub fn replay_lines(call: &Call, answer: &str) -> Option<String> {
+/// The oracle's answer to a card that was accepted, as the lines that `replay` prints; `before` is
+/// the state before it. Fired timers come under the active number.
+pub fn replay_lines(call: &Call, before: &str, answer: &str) -> Option<String> {
     let (words, state) = answer.split_once(" | ")?;
     let active = state.split(' ').find_map(|part| part.strip_prefix("num="))?.parse().ok()?;
-    let lines = answer_lines(call, words)?.into_iter();
-    let lines = lines.flat_map(|l| if l.code == 31 { by_timer(&l, active) } else { vec![l] });
-    lines.map(|l| show(&l)).collect()
+    let mut text = String::new();
+    for l in answer_lines(call, words)? {
+        let lines = if l.code == 31 { by_timer(&l, active, before)? } else { vec![l] };
+        for l in lines {
+            text.push_str(&show(&l)?);
+        }
+    }
+    Some(text)
 }
 
 /// The line of a refused card.
@@ -210,27 +237,31 @@ fn is_question(call: &Call) -> bool {
     matches!(call, Call::GrantSet | Call::LeaseSet | Call::LeaseCnt | Call::TimeLeft(_))
 }
 
-// All lines for one answer of the oracle, with its state.
-fn answered(call: &Call, answer: &str) -> Option<Vec<LineC>> {
+// All lines for one answer of the oracle, with its state; fired timers in order, under 0.
+fn answered(call: &Call, before: &str, answer: &str) -> Option<Vec<LineC>> {
     if let Some(k) = answer.strip_prefix("refused ") {
         return Some(vec![line(20, 0, 0, k.parse().ok()?, 0)]);
     }
     let (words, state) = answer.split_once(" | ")?;
     let mut lines = answer_lines(call, words)?;
+    if let Some(sets) = lines.first().copied().filter(|l| l.code == 31) {
+        lines.extend(by_timer(&sets, 0, before)?);
+    }
     if !is_question(call) {
         lines.extend(state_lines(state)?);
     }
     Some(lines)
 }
 
-// A call and its answer, as they are stored. Blank lines, comments and `V` are not.
-fn stored(call: &str, answer: &str) -> Option<(String, String)> {
+// A call and its answer, as they are stored; `before` is the state before it. Blank lines, comments
+// and `V` are not stored.
+fn stored(call: &str, before: &str, answer: &str) -> Option<(String, String)> {
     let call = match parse::line(call) {
         Line::Call(call) => call,
         Line::Blank | Line::Comment(_) | Line::Verbose(_) => return Some(Default::default()),
         _ => return None,
     };
-    let lines: Option<Vec<String>> = answered(&call, answer)?.iter().map(show).collect();
+    let lines: Option<Vec<String>> = answered(&call, before, answer)?.iter().map(show).collect();
     Some((card(&call)?, lines?.concat()))
 }
 
@@ -239,14 +270,18 @@ pub fn write(cards: &str, answers: &str) -> io::Result<()> {
     let mut cards = BufWriter::new(File::create(cards)?);
     let mut answers = BufWriter::new(File::create(answers)?);
     let mut lines = io::stdin().lock().lines();
+    let mut state = String::new();
     while let Some(call) = lines.next() {
         let call = call?;
         let answer =
             lines.next().ok_or_else(|| io::Error::other("no answer to the last call"))??;
-        let (card, answer) = stored(&call, &answer)
+        let (card, stored) = stored(&call, &state, &answer)
             .ok_or_else(|| io::Error::other(format!("cannot be stored: {call}\n{answer}")))?;
         cards.write_all(card.as_bytes())?;
-        answers.write_all(answer.as_bytes())?;
+        answers.write_all(stored.as_bytes())?;
+        if answer.contains(" | ") {
+            state = state_of(&answer).to_string();
+        }
     }
     cards.flush()?;
     answers.flush()

@@ -1,24 +1,27 @@
 //! The library's side: a record that is lent to every call, and the answers as text.
 use crate::answer;
 use crate::call::Call;
+use crate::fired;
 use crate::leaves;
 use crate::parse::{self, Line};
 use crate::state;
 use crate::text;
-use biasflint::raw::{self, AnswerC, ManagerC};
+use biasflint::raw::{self, AnswerC, FiredTimersC, ManagerC};
 use std::io::{self, BufRead, BufWriter, Write};
 
 /// Answers lines of the protocol. A set-up ends the session before it, as with the oracle, whatever
 /// comes of it.
 pub struct Side {
     pub record: ManagerC,
+    /// The timers of the last advance.
+    fired: FiredTimersC,
     there: bool,
     always: bool,
 }
 
 impl Side {
     pub fn new(always: bool) -> Side {
-        Side { record: ManagerC::BLANK, there: false, always }
+        Side { record: ManagerC::BLANK, fired: FiredTimersC::NONE, there: false, always }
     }
 
     /// The call, and its answer as text.
@@ -26,6 +29,9 @@ impl Side {
         let near = matches!(call, Call::Advance(to) if state::is_near(&self.record, *to));
         let answer = raw::call(&mut self.record, call.card());
         answer::write(out, call, &answer, self.record.population as u64, near);
+        if matches!(call, Call::SetUp(_) | Call::Advance(_)) {
+            self.fired = answer.fired;
+        }
         answer
     }
 
@@ -44,6 +50,9 @@ impl Side {
             self.call(call, out);
         } else if matches!(line, Line::State) {
             state::write(out, &self.record);
+        } else if matches!(line, Line::Order) {
+            text::words(out, "order ");
+            fired::write(out, &self.fired);
         } else {
             text::words(out, "bad");
         }

@@ -3,13 +3,14 @@
 use crate::answer::spare_lines_are_zero;
 use crate::call::Call;
 use crate::events::Counts;
+use crate::fired::{self, Timer};
 use crate::generate::{Generator, Limits, Mode};
 use crate::judge::Judge;
 use crate::oracle::{Batch, Oracle};
 use crate::side::Side;
 use crate::tally::Tally;
 use crate::text;
-use biasflint::raw::AnswerC;
+use biasflint::raw::{AnswerC, ManagerC};
 use std::io::{self, Write};
 use std::time::Instant;
 
@@ -19,6 +20,19 @@ pub struct Walk {
     side: Side,
     tally: Tally,
     batch: Batch,
+    /// Whether the oracle is asked in which order timers fired, and how often it was.
+    asks_order: bool,
+    orders: u64,
+}
+
+// The timers that an answer's sets say fired, in the order of their deadlines.
+fn due(before: &ManagerC, call: &Call, answer: &AnswerC) -> Vec<Timer> {
+    match call {
+        Call::Advance(_) if answer.refused == 0 => {
+            fired::by_record(before, answer.one.first, answer.one.second)
+        }
+        _ => Vec::new(),
+    }
 }
 
 impl Walk {
@@ -29,6 +43,8 @@ impl Walk {
             side: Side::new(true),
             tally: Tally::new(),
             batch: Batch::default(),
+            asks_order: false,
+            orders: 0,
         }
     }
 
@@ -39,7 +55,9 @@ impl Walk {
         let written = self.batch.answers.len();
         let answer = self.side.call(call, &mut self.batch.answers);
         let changed = answer.refused > 0 && self.side.record != before;
-        if answer.refused != expected || changed || !spare_lines_are_zero(&answer) {
+        let due = due(&before, call, &answer);
+        let odd = !spare_lines_are_zero(&answer) || answer.fired != fired::listed(&due);
+        if answer.refused != expected || changed || odd {
             return Err(self.misjudged(call, expected, changed, &answer));
         }
         if expected > 0 && !between {
@@ -55,7 +73,17 @@ impl Walk {
         call.line(&mut self.batch.calls);
         self.batch.calls.push(b'\n');
         self.tally.both(&before, &self.side.record, call, &answer);
+        if self.asks_order && due.len() > 1 {
+            self.ask_order(&due);
+        }
         Ok(())
+    }
+
+    fn ask_order(&mut self, due: &[Timer]) {
+        self.batch.calls.extend_from_slice(b"O\n");
+        fired::write_order(&mut self.batch.answers, due);
+        self.batch.answers.push(b'\n');
+        self.orders += 1;
     }
 
     fn misjudged(&self, call: &Call, expected: u64, changed: bool, answer: &AnswerC) -> io::Error {
@@ -106,7 +134,7 @@ impl Walk {
 pub fn run(name: &str, mode: Mode, seed: u64, calls: u64, path: &str) -> io::Result<()> {
     let begin = Instant::now();
     let mut oracle = Oracle::start(path, true)?;
-    let mut walk = Walk::new(seed, mode, Limits::ALL);
+    let mut walk = Walk { asks_order: true, ..Walk::new(seed, mode, Limits::ALL) };
     while walk.tally.compared < calls {
         walk.session(calls)?;
         if walk.batch.is_full() {
@@ -115,13 +143,15 @@ pub fn run(name: &str, mode: Mode, seed: u64, calls: u64, path: &str) -> io::Res
     }
     oracle.send(std::mem::take(&mut walk.batch))?;
     let compared = oracle.finish()?;
-    assert_eq!(compared, walk.tally.compared);
+    let calls = walk.tally.compared;
+    assert_eq!(compared, calls + walk.orders);
     let seconds = begin.elapsed().as_secs_f64();
     println!(
-        "mode {name}, seed {seed}: {compared} calls compared in {} sessions, 0 differ; \
-         {seconds:.1} s, {:.0} calls a second",
+        "mode {name}, seed {seed}: {calls} calls compared in {} sessions, 0 differ; {} orders of \
+         firing; {seconds:.1} s, {:.0} calls a second",
         walk.tally.sessions,
-        compared as f64 / seconds
+        walk.orders,
+        calls as f64 / seconds
     );
     // a reader that has gone away is no fault of the comparison
     let _ = io::stdout().write_all(walk.tally.shown().as_bytes());

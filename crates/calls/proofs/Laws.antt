@@ -1,13 +1,11 @@
 -- What a record that the check passes gives the calls: `ManagerFits`, and that no sent promise's deadline is far off. Assumes nothing.
-use Prim.Native.Nat.{ℕ, zero, suc, _+_, _≤_, _<_}
-use mathlib.Core.Path.{_≡_, refl, subst}
+use Prim.Native.Nat.{ℕ, _+_}
+use mathlib.Core.Path.{_≡_}
 use mathlib.Core.Bool.{Bool, true, false, cond, not, _&&_}
-use mathlib.Core.List.{List}
 use native.Mathlib.Omega.{arith}
 use lib.Dec.{eqb, leb, ltb}
-use borrow.Author.Tests.{ltb-true, ltb-false, leb-true}
+use borrow.Author.Tests.{ltb-true, leb-true}
 use Rattle.bitmap.specs.Bitmaps.{capacity}
-use Rattle.drift.specs.Clocks.{isSettable}
 use Rattle.timer.specs.declared.Reading.{Reading}
 use Rattle.timer.specs.declared.Timer.{Timer}
 use Rattle.timer.specs.declared.Timer.the-variants.{Unarmed, Armed, Exploded}
@@ -16,36 +14,14 @@ use Rattle.lease.specs.declared.Grant.{Grant}
 use Rattle.lease.specs.declared.Grant.the-variants as G
 use Rattle.lease.specs.declared.Peer.{Peer}
 use Rattle.lease.specs.declared.Manager.{Manager}
-use Rattle.lease.specs.Rows.{rowAt, present, granted}
+use Rattle.lease.specs.Rows.{present, granted}
 use Rattle.lease.specs.Limits.{timeoutValid, populationValid, ownValid, readingValid}
-use Rattle.lease.specs.RecordCheck.{timerValid, sentGuardValid, entryValid, grantValid, quietValid, timersValid, sidesValid, rowValid, entriesEmpty, rowEmpty, rowValidAt, rowsValid, limitsValid, recordValid}
-use Rattle.lease.proofs.Tests.{both}
+use Rattle.lease.specs.RecordCheck.{timerValid, sentGuardValid, entryValid, grantValid, timersValid, sidesValid, rowValid, entriesEmpty, rowEmpty, rowValidAt, limitsValid, recordValid}
+use Rattle.lease.proofs.Tests.{both, fst-of, snd-of}
+use Rattle.lease.proofs.RecordCheck.{limits-of, few-of, rows-of, row-of}
 use Rattle.refresh_visits.specs.Fits.{NearGrant}
 use Rattle.passes.specs.Fits.{ManagerFits}
 use Rattle.calls.specs.Fits.{NearRows}
-
--- both parts of a conjunction
-fst-of : (a b : Bool) → (a && b) ≡ true → a ≡ true
-fst-of true b e = refl
-fst-of false b e = e
-
-snd-of : (a b : Bool) → (a && b) ≡ true → b ≡ true
-snd-of true b e = e
-snd-of false b e = absurd (let z : _≡_ {A = ℕ} 0 1 = cc in omega arith)
-
-abbrev rows : Manager → Bool
-rows m = rowsValid (m .me) (m .population) (m .now) (m .peers) capacity
-
-abbrev rest : Manager → Bool
-rest m = isSettable (m .clock) && quietValid (m .now) (m .«quiet_timer»)
-
-limits-of : (m : Manager) → recordValid m ≡ true → limitsValid m ≡ true
-unfolding recordValid
-limits-of m e = fst-of (limitsValid m) (rows m) (fst-of (limitsValid m && rows m) (rest m) e)
-
-rows-of : (m : Manager) → recordValid m ≡ true → rowsValid (m .me) (m .population) (m .now) (m .peers) capacity ≡ true
-unfolding recordValid
-rows-of m e = snd-of (limitsValid m) (rows m) (fst-of (limitsValid m && rows m) (rest m) e)
 
 pub fits : (m : Manager) → recordValid m ≡ true → ManagerFits m
 unfolding limitsValid
@@ -58,20 +34,9 @@ fits m e =
     record {
       reading = leb-true (m .now .0) maxReading (snd-of (ltb (m .me) n) (readingValid (m .now)) b);
       timeout = leb-true t 10000000000 (both (leb 100000000 t) (leb t 10000000000) (fst-of (timeoutValid t) (populationValid n) a) .1);
-      few = leb-true n capacity (both (leb 1 n) (leb n capacity) (snd-of (timeoutValid t) (populationValid n) a) .1);
+      few = few-of m e;
       own = ltb-true (m .me) n (fst-of (ltb (m .me) n) (readingValid (m .now)) b);
     }
-
-row-of : (own n : ℕ) (now : Reading) (rows : List Peer) (k i : ℕ) → rowsValid own n now rows k ≡ true → i < k → rowValidAt own n now i (rowAt rows i) ≡ true
-unfolding rowsValid
-row-of own n now rows zero i e h = absurd (omega arith)
-row-of own n now rows (suc k) i e h =
-    go (ltb i k) refl (λ l. row-of own n now rows k i (fst-of (rowsValid own n now rows k) (rowValidAt own n now k (rowAt rows k)) e) l)
-    (snd-of (rowsValid own n now rows k) (rowValidAt own n now k (rowAt rows k)) e)
-  where
-    go : (x : Bool) → ltb i k ≡ x → (i < k → rowValidAt own n now i (rowAt rows i) ≡ true) → rowValidAt own n now k (rowAt rows k) ≡ true → rowValidAt own n now i (rowAt rows i) ≡ true
-    go true q ih here = ih (ltb-true i k q)
-    go false q ih here = let same : k ≡ i = omega (arith, ltb-false i k q) in subst (λ j. rowValidAt own n now j (rowAt rows j) ≡ true) same here
 
 near-timer : (now : Reading) (t : Timer) → timerValid now t ≡ true → Near now t
 near-timer now Unarmed e = tt

@@ -2,8 +2,10 @@
 // a definition of lease/specs/Calls.
 use drift::Clock;
 use drift_floats::quotient;
+use fired_order::fired_timers;
 use lease::AdvanceAnswer;
 use lease::AdvanceOutcome;
+use lease::Advanced;
 use lease::DriftSetting;
 use lease::Manager;
 use lease::Pass;
@@ -59,7 +61,7 @@ pub fn start_quiet(m: Manager) -> Manager
     with_time(m, now, clock, quiet_timer, peers)
 }
 
-// The clock is set, and what is due explodes.
+// The clock is set, and what is due explodes. The list is made of the rows as they were before.
 pub fn advance_to(m: Manager, to: Reading) -> AdvanceAnswer
     requires { ⌜ ManagerFits m ⌝ }
     ensures { λ r. ⌜ r ≡ advanceTo m to ⌝ }
@@ -72,11 +74,13 @@ pub fn advance_to(m: Manager, to: Reading) -> AdvanceAnswer
     let end = quiet_end(fired, m.me, m.population);
     let sent = p.first;
     let held = p.second;
+    let fired = fired_timers(peers, sent, held);
     let after = p.peers;
     let clock = m.clock;
     let manager = with_time(m, to, clock, quiet_timer, after);
+    let outcome = AdvanceOutcome::Fired(sent, held, end);
     AdvanceAnswer {
-        outcome: AdvanceOutcome::Fired(sent, held, end),
+        advanced: Advanced { outcome, fired },
         manager,
     }
 }

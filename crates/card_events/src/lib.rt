@@ -1,7 +1,6 @@
 // What a card of six numbers says, and the card of an event (document 02, wish 1), in the types of the lease
 // manager. Definitions in specs/Events, what is claimed of them in specs/Claims. The six numbers are the host
 // library's CallC; a card of wish 1 is stricter than a call of the host's: fields that a code does not name are 0.
-use bitmap::Bitmap;
 use host_cards::CallC;
 use host_cards::is_flag;
 use host_cards::lease_notice_of;
@@ -48,7 +47,7 @@ pub enum CardOutcome {
     // A notice's actions.
     Acted(Lines),
     // The active number, the peers whose sent timers fired, those whose held timers fired, and the quiet-end line.
-    Fired(LeaseNum, Bitmap, Bitmap, QuietEnd),
+    Fired(LeaseNum, QuietEnd),
 }
 
 // ---- which numbers are a card: refusal 22

@@ -8,7 +8,7 @@ use borrow.Author.Tests.{ltb-true, ltb-false, eqb-true, lt-ltb, le-ltb}
 use lib.Dec.{eqb, ltb, leb·suc-suc}
 use lib.ListN.{length, drop, length-drop}
 use lib.Seq.{drop-drop}
-use Rattle.card_sessions.specs.Sessions.{refusedCard, cardGiven}
+use Rattle.card_sessions.specs.Sessions.{givenBy, refusedCard, cardGiven}
 use Rattle.card_lines.specs.Lines.{roomOf}
 use Rattle.card_lines.proofs.Laws.{fits}
 use Rattle.card_partials.specs.declared.Partial.{Partial}
@@ -95,11 +95,11 @@ held-filled r (b ∷ bs) = go (eqb b 10) (held-filled (keptIn r b) bs)
     go false h = omega (arith, held-kept (r .partial) b)
 
 pub room-of-line : (r : Replay) → roomOf (lineGiven r .outcome) ≤ 123 * (held r + 1)
-unfolding roomOf lineGiven partialRead cardGiven refusedCard
+unfolding roomOf lineGiven partialRead cardGiven refusedCard givenBy
 room-of-line r = go (eqb (r .partial .filled) 73) refl
   where
     go : (t : Bool) → eqb (r .partial .filled) 73 ≡ t → roomOf (lineGiven r .outcome) ≤ 123 * (held r + 1)
-    go true e = omega (arith, eqb-true (r .partial .filled) 73 e, fits 0 (lineGiven r .outcome) .1)
+    go true e = omega (arith, eqb-true (r .partial .filled) 73 e, fits 0 (lineGiven r .outcome) (lineGiven r .fired) .1)
     go false e = rw e (omega arith)
 
 -- what a line prints and holds leaves the room of the rest
@@ -111,7 +111,7 @@ turn-room r bs = go (ltb (lineEnd bs) (length bs)) refl
     go true e =
         let l = ltb-true (lineEnd bs) (length bs) e in
         let a = lineGiven (filledBy r bs) in
-        rw e (omega (arith, fits (a .session .cards) (a .outcome) .0, room-of-line (filledBy r bs), held-filled r bs))
+        rw e (omega (arith, fits (a .session .cards) (a .outcome) (a .fired) .0, room-of-line (filledBy r bs), held-filled r bs))
     go false e = rw e (omega (arith, held-filled r bs, line-end-le bs))
 
 -- ---- one turn of the loop: the line from `from` on, and then the rest

@@ -19,7 +19,7 @@ use Rattle.card_feed.specs.declared.Fed.{Fed}
 
 -- The lines of a card's answer. A card's number is how many cards there were with it.
 unfoldable pub givenText : CardAnswer → List ℕ
-givenText a = outcomeText (a .session .cards) (a .outcome)
+givenText a = outcomeText (a .session .cards) (a .outcome) (a .fired)
 
 -- What is left of a line that has no newline: nothing, or a line that is not of the form.
 abbrev pub restText : Session → List ℕ → List ℕ

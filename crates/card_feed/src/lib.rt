@@ -74,8 +74,9 @@ fn end_line(r: Replay, out: &mut [u8], at: usize) -> Ended
     let read = read_partial(partial);
     let answer = take_card(session, read);
     let outcome = answer.outcome;
+    let fired = answer.fired;
     let next = answer.session;
-    let end = put_outcome(out, at, next.cards, outcome);
+    let end = put_outcome(out, at, next.cards, outcome, fired);
     let columns = partial.columns;
     Ended {
         replay: Replay {
@@ -185,6 +186,7 @@ pub fn finish(r: Replay, out: &mut [u8]) -> usize
     let session = r.session;
     let answer = take_card(session, EventRead::Refused(21));
     let outcome = answer.outcome;
+    let fired = answer.fired;
     let next = answer.session;
-    put_outcome(out, 0, next.cards, outcome)
+    put_outcome(out, 0, next.cards, outcome, fired)
 }

@@ -5,12 +5,12 @@ use mathlib.Core.Bool.{Bool, true, false, cond}
 use mathlib.Core.List.{List, _++_}
 use native.Mathlib.Omega.{arith}
 use lib.Dec.{eqb}
-use lib.ListN.{length, length-append}
+use lib.ListN.{length, length-append, length-take}
 use lib.Seq.{slice}
 use borrow.Author.Tests.{eqb-true}
-use Rattle.bitmap.specs.Bitmaps.{capacity}
 use Rattle.lease.specs.declared.Lines.{Lines}
 use Rattle.lease.specs.declared.Lines.the-variants as L
+use Rattle.lease.specs.declared.FiredTimers.{FiredTimers}
 use Rattle.lease.specs.declared.QuietEnd.{QuietEnd}
 use Rattle.lease.specs.declared.QuietEnd.the-variants as Q
 use Rattle.lease.proofs.Tests.{both}
@@ -25,7 +25,7 @@ use Rattle.card_lines.specs.declared.LineRead.{LineRead}
 use Rattle.card_lines.specs.declared.LineRead.the-variants as R
 use Rattle.card_lines.specs.Lines.{lineColumns, actionLines, quietLines, outcomeLines, roomOf, allNumbers, lineRead}
 use Rattle.card_lines.specs.Claims.{WrittenIsRead, ReadIsWritten, Fits}
-use Rattle.card_lines.proofs.Text.{upToNumber, upToPeer, upToFirst, length-number, length-peer, length-first, length-columns, length-text, fired-few}
+use Rattle.card_lines.proofs.Text.{upToNumber, upToPeer, upToFirst, length-number, length-peer, length-first, length-columns, length-text, length-fired}
 
 -- ---- what is written is read
 
@@ -134,16 +134,16 @@ unfolding quietLines
 quiet-few Q.None = omega arith
 quiet-few (Q.Given line) = omega arith
 
-outcome-few : (card : ℕ) (outcome : CardOutcome) → (70 * length (outcomeLines card outcome) ≤ roomOf outcome) × (roomOf outcome ≤ 9030)
+outcome-few :
+    (card : ℕ) (outcome : CardOutcome) (fired : FiredTimers)
+    → (70 * length (outcomeLines card outcome fired) ≤ roomOf outcome) × (roomOf outcome ≤ 9030)
 unfolding outcomeLines roomOf
-outcome-few card (O.Refused k) = (omega arith, omega arith)
-outcome-few card O.Done = (omega arith, omega arith)
-outcome-few card (O.Acted lines) = (omega (arith, actions-few lines), omega arith)
-outcome-few card (O.Fired num sent held end) =
-    let a = fired-few 14 (num .0) sent capacity in
-    let b = fired-few 15 (num .0) held capacity in
+outcome-few card (O.Refused k) fired = (omega arith, omega arith)
+outcome-few card O.Done fired = (omega arith, omega arith)
+outcome-few card (O.Acted lines) fired = (omega (arith, actions-few lines), omega arith)
+outcome-few card (O.Fired num end) fired =
     let q = quiet-few end in
-    (simp length-append (omega arith), omega arith)
+    (simp (length-append, length-fired, length-take) (omega arith), omega arith)
 
 pub fits : Fits
-fits card outcome = rw (length-text (outcomeLines card outcome)) (outcome-few card outcome)
+fits card outcome fired = rw (length-text (outcomeLines card outcome fired)) (outcome-few card outcome fired)

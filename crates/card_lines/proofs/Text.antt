@@ -1,19 +1,18 @@
 -- The text of output lines: how long it is, and how it is laid into a list line by line. Assumes nothing.
-use Prim.Native.Nat.{ℕ, zero, suc, _+_, _*_, _≤_}
-use mathlib.Core.Path.{_≡_, refl, sym}
-use mathlib.Core.Bool.{Bool, true, false, cond}
+use Prim.Native.Nat.{ℕ, suc, _+_, _*_, _≤_, _<_, min}
+use mathlib.Core.Path.{_≡_, refl, sym, ap}
 use mathlib.Core.List.{List, [], _∷_, _++_, append-nil, append-assoc}
 use native.Mathlib.Numerals.{add-one}
 use native.Mathlib.Omega.{arith}
-use lib.ListN.{length, set, length-append}
-use lib.Seq.{sets}
-use Rattle.bitmap.specs.declared.Bitmap.{Bitmap}
-use Rattle.bitmap.specs.Bitmaps.{capacity, isOne}
+use lib.ListN.{length, set, take, getD, length-append, length-take}
+use lib.Seq.{sets, take-suc}
+use Rattle.lease.specs.declared.FiredTimer.{FiredTimer}
+use Rattle.lease.specs.declared.FiredTimers.{FiredTimers}
+use Rattle.lease.specs.Fired.{listedIn}
 use Rattle.columns.specs.Columns.{column}
 use Rattle.columns.proofs.Text.{length-column, sets-append}
 use Rattle.columns.proofs.Parts.{length-next}
 use Rattle.host_lines.specs.declared.LineC.{LineC}
-use Rattle.host_lines.specs.Lines.{lineC}
 use Rattle.card_lines.specs.Lines.{lineColumns, lineText, textOf, firedLine, firedLines}
 
 -- ---- one line
@@ -103,24 +102,32 @@ laid-then xs ys zs at mid end a b p q =
 
 -- ---- the timers that fired
 
-pub fired-next : (code num : ℕ) (ids : Bitmap) (n : ℕ) → firedLines code num ids (n + 1) ≡ firedLines code num ids n ++ firedLine code num ids n
+fired-append : (num : ℕ) (a b : List FiredTimer) → firedLines num (a ++ b) ≡ firedLines num a ++ firedLines num b
 unfolding firedLines
-fired-next code num ids n = rw (add-one n)
+fired-append num [] b = refl
+fired-append num (t ∷ a) b = rw (fired-append num a b)
 
-pub fired-few : (code num : ℕ) (ids : Bitmap) (n : ℕ) → length (firedLines code num ids n) ≤ n
+-- the lines of the first k timers of a list, and then the next one's line
+pub timer-laid :
+    (xs ys zs : List ℕ) (at mid end num : ℕ) (ts : List FiredTimer) (k : ℕ) (d : FiredTimer) →
+    k < length ts →
+    Laid xs at (firedLines num (take k ts)) mid ys →
+    (end ≡ mid + length (lineText (firedLine num (getD ts k d)))) × (zs ≡ sets ys mid (lineText (firedLine num (getD ts k d)))) →
+    Laid xs at (firedLines num (take (k + 1) ts)) end zs
 unfolding firedLines
-fired-few code num ids zero = omega arith
-fired-few code num ids (suc n) =
-    rw (length-append (firedLines code num ids n) (firedLine code num ids n))
-    (omega (arith, fired-few code num ids n, one-or-none (isOne ids n)))
-  where
-    one-or-none : (x : Bool) → length (cond x (lineC code num n 0 0 ∷ []) []) ≤ 1
-    one-or-none true = omega arith
-    one-or-none false = omega arith
+timer-laid xs ys zs at mid end num ts k d h p q =
+    let one = firedLine num (getD ts k d) in
+    rw (add-one k, take-suc ts k d h, fired-append num (take k ts) (getD ts k d ∷ []))
+    (laid-then xs ys zs at mid end (firedLines num (take k ts)) (one ∷ []) p (rw (textOf-one one) q))
 
--- 70 bytes for each id have room for them
-pub fired-room : (code num : ℕ) (ids : Bitmap) (n : ℕ) → length (textOf (firedLines code num ids n)) ≤ 70 * n
-fired-room code num ids n = rw (length-text (firedLines code num ids n)) (omega (arith, fired-few code num ids n))
+pub length-fired : (num : ℕ) (ts : List FiredTimer) → length (firedLines num ts) ≡ length ts
+unfolding firedLines
+length-fired num [] = refl
+length-fired num (t ∷ ts) = ap suc (length-fired num ts)
 
-pub fired-end : (at end code num : ℕ) (ids : Bitmap) → end ≡ at + length (textOf (firedLines code num ids capacity)) → end ≤ at + 4480
-fired-end at end code num ids e = omega (arith, fired-room code num ids capacity)
+-- 70 bytes for each timer have room for the first k of them
+pub fired-room : (num : ℕ) (ts : List FiredTimer) (k : ℕ) → length (textOf (firedLines num (take k ts))) ≤ 70 * k
+fired-room num ts k = rw (length-text (firedLines num (take k ts)), length-fired num (take k ts), length-take) (omega arith)
+
+pub fired-end : (at end num : ℕ) (f : FiredTimers) → end ≡ at + length (textOf (firedLines num (listedIn f))) → end ≤ at + 8960
+fired-end at end num f e = omega (arith, fired-room num (f .timers) (min (f .count) 128))

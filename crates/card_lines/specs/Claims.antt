@@ -4,6 +4,7 @@ use mathlib.Core.Path.{_≡_}
 use mathlib.Core.List.{List}
 use lib.ListN.{length}
 use Rattle.columns.specs.Columns.{maxNumber}
+use Rattle.lease.specs.declared.FiredTimers.{FiredTimers}
 use Rattle.host_lines.specs.declared.LineC.{LineC}
 use Rattle.card_events.specs.declared.CardOutcome.{CardOutcome}
 use Rattle.card_lines.specs.declared.LineRead.the-variants as R
@@ -23,4 +24,6 @@ ReadIsWritten = (line : List ℕ) (l : LineC) → lineRead line ≡ R.Numbers l 
 
 -- What a card gives has room where `roomOf` says.
 abbrev pub Fits : Type 0
-Fits = (card : ℕ) (outcome : CardOutcome) → (length (outcomeText card outcome) ≤ roomOf outcome) × (roomOf outcome ≤ 9030)
+Fits =
+    (card : ℕ) (outcome : CardOutcome) (fired : FiredTimers)
+    → (length (outcomeText card outcome fired) ≤ roomOf outcome) × (roomOf outcome ≤ 9030)

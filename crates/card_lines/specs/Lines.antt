@@ -1,18 +1,19 @@
 -- Document 02, wish 1, output lines: code (2 columns), number (21), peer (4), first (21), second (21). What lines a card gives, and how a
 -- line is read back. Definitions only.
-use Prim.Native.Nat.{ℕ, zero, suc}
+use Prim.Native.Nat.{ℕ}
 use mathlib.Core.Bool.{Bool, false, cond}
 use mathlib.Core.List.{List, [], _∷_, _++_}
 use lib.Dec.{eqb, leb}
 use lib.ListN.{length}
 use lib.Seq.{slice}
-use Rattle.bitmap.specs.declared.Bitmap.{Bitmap}
-use Rattle.bitmap.specs.Bitmaps.{capacity, isOne}
 use Rattle.lease.specs.declared.Line.{Line}
 use Rattle.lease.specs.declared.Lines.{Lines}
 use Rattle.lease.specs.declared.Lines.the-variants as L
+use Rattle.lease.specs.declared.FiredTimer.{FiredTimer}
+use Rattle.lease.specs.declared.FiredTimers.{FiredTimers}
 use Rattle.lease.specs.declared.QuietEnd.{QuietEnd}
 use Rattle.lease.specs.declared.QuietEnd.the-variants as Q
+use Rattle.lease.specs.Fired.{listedIn}
 use Rattle.columns.specs.declared.Field.{Field}
 use Rattle.columns.specs.Columns.{column, fieldOf, isNumber, numberIn}
 use Rattle.host_lines.specs.declared.LineC.{LineC}
@@ -38,14 +39,14 @@ textOf (l ∷ ls) = lineText l ++ textOf ls
 
 -- ---- the lines of what a card gives. Lines 1 to 13, the actions, are those of `host_lines`
 
--- 14 a fired sent timer, 15 a fired held timer: the line of the id i, if it fired.
-abbrev pub firedLine : ℕ → ℕ → Bitmap → ℕ → List LineC
-firedLine code num set i = cond (isOne set i) (lineC code num i 0 0 ∷ []) []
+-- 14 a fired sent timer, 15 a fired held timer.
+abbrev pub firedLine : ℕ → FiredTimer → LineC
+firedLine num t = lineC (cond (t .held) 15 14) num (t .id) 0 0
 
--- Those of the ids below n, by id.
-unfoldable pub firedLines : ℕ → ℕ → Bitmap → ℕ → List LineC
-firedLines code num set zero = []
-firedLines code num set (suc n) = firedLines code num set n ++ firedLine code num set n
+-- One for each timer of a list, in its order (wish 2).
+unfoldable pub firedLines : ℕ → List FiredTimer → List LineC
+firedLines num [] = []
+firedLines num (t ∷ ts) = firedLine num t ∷ firedLines num ts
 
 abbrev pub actionLine : Line → List LineC
 actionLine a = lineOf a ∷ []
@@ -62,21 +63,21 @@ quietLines Q.None = []
 quietLines (Q.Given line) = actionLine line
 
 -- 20 a refused card: first is the refusal, second the card's number. Set-up prints nothing.
-unfoldable pub outcomeLines : ℕ → CardOutcome → List LineC
-outcomeLines card (O.Refused k) = lineC 20 0 0 k card ∷ []
-outcomeLines card O.Done = []
-outcomeLines card (O.Acted lines) = actionLines lines
-outcomeLines card (O.Fired num sent held end) = firedLines 14 (num .0) sent capacity ++ firedLines 15 (num .0) held capacity ++ quietLines end
+unfoldable pub outcomeLines : ℕ → CardOutcome → FiredTimers → List LineC
+outcomeLines card (O.Refused k) fired = lineC 20 0 0 k card ∷ []
+outcomeLines card O.Done fired = []
+outcomeLines card (O.Acted lines) fired = actionLines lines
+outcomeLines card (O.Fired num end) fired = firedLines (num .0) (listedIn fired) ++ quietLines end
 
-abbrev pub outcomeText : ℕ → CardOutcome → List ℕ
-outcomeText card outcome = textOf (outcomeLines card outcome)
+abbrev pub outcomeText : ℕ → CardOutcome → FiredTimers → List ℕ
+outcomeText card outcome fired = textOf (outcomeLines card outcome fired)
 
 -- How many bytes have room for them: 70 for each line that can come.
 unfoldable pub roomOf : CardOutcome → ℕ
 roomOf (O.Refused k) = 70
 roomOf O.Done = 0
 roomOf (O.Acted lines) = 210
-roomOf (O.Fired num sent held end) = 9030
+roomOf (O.Fired num end) = 9030
 
 -- ---- writing a line by itself
 

@@ -1,7 +1,5 @@
 // Output lines (document 02, wish 1): 69 columns and a newline. Writing the lines of what a card gives, and
 // reading one line back. Definitions in specs/Lines, what is claimed of them in specs/Claims.
-use bitmap::Bitmap;
-use bitmap::is_one;
 use card_events::CardOutcome;
 use columns::Field;
 use columns::field_of;
@@ -10,15 +8,17 @@ use columns::number_in;
 use columns::put_column;
 use host_lines::LineC;
 use host_lines::line_of;
+use lease::FiredTimer;
+use lease::FiredTimers;
 use lease::Line;
 use lease::Lines;
 use lease::QuietEnd;
-ghost use Prim.Native.Nat.{_+_, _<_, _≤_};
+ghost use Prim.Native.Nat.{_+_, _≤_};
 ghost use mathlib.Core.Path.{_≡_};
 ghost use mathlib.Core.Bool.{cond};
 ghost use lib.ListN.{length};
 ghost use lib.Seq.{sets};
-ghost use Rattle.bitmap.specs.Bitmaps.{capacity};
+ghost use Rattle.lease.specs.Fired.{listedIn};
 ghost use Rattle.card_lines.specs.Lines.{lineText, textOf, firedLine, firedLines, actionLine, actionLines, quietLines, outcomeText, roomOf, lineFits, canWrite, allNumbers, lineRead};
 
 // How long a line is, and with its newline.
@@ -48,37 +48,35 @@ fn put_line(out: &mut [u8], at: usize, l: LineC) -> usize
     at + 70
 }
 
-// The line of the id i, if it is in the set.
-fn put_fired_id(out: &mut [u8], at: usize, code: u64, num: u64, set: Bitmap, i: usize) -> usize
+// A fired timer.
+fn put_timer(out: &mut [u8], at: usize, num: u64, t: FiredTimer) -> usize
     requires { ⌜ at + 70 ≤ length (now out) ⌝ }
-    requires { ⌜ i < capacity ⌝ }
-    ensures { λ r. ⌜ r ≡ at + length (textOf (firedLine code num set i)) ⌝ }
-    ensures { λ r. ⌜ now (out .exit) ≡ sets (now (out .entry)) at (textOf (firedLine code num set i)) ⌝ }
+    ensures { λ r. ⌜ r ≡ at + length (lineText (firedLine num t)) ⌝ }
+    ensures { λ r. ⌜ now (out .exit) ≡ sets (now (out .entry)) at (lineText (firedLine num t)) ⌝ }
 {
-    if is_one(set, i) {
-        let l = LineC {
-            code,
-            number: num,
-            peer: i as u64,
-            first: 0,
-            second: 0,
-        };
-        return put_line(out, at, l);
-    }
-    at
+    let code = if t.held { 15 } else { 14 };
+    let l = LineC {
+        code,
+        number: num,
+        peer: t.id as u64,
+        first: 0,
+        second: 0,
+    };
+    put_line(out, at, l)
 }
 
-// The timers of a set that fired, by id.
-fn put_fired(out: &mut [u8], at: usize, code: u64, num: u64, set: Bitmap) -> usize
-    requires { ⌜ at + 4480 ≤ length (now out) ⌝ }
-    ensures { λ r. ⌜ r ≡ at + length (textOf (firedLines code num set capacity)) ⌝ }
-    ensures { λ r. ⌜ now (out .exit) ≡ sets (now (out .entry)) at (textOf (firedLines code num set capacity)) ⌝ }
+// The timers that fired, in the order of their list.
+fn put_fired(out: &mut [u8], at: usize, num: u64, fired: FiredTimers) -> usize
+    requires { ⌜ at + 8960 ≤ length (now out) ⌝ }
+    ensures { λ r. ⌜ r ≡ at + length (textOf (firedLines num (listedIn fired))) ⌝ }
+    ensures { λ r. ⌜ now (out .exit) ≡ sets (now (out .entry)) at (textOf (firedLines num (listedIn fired))) ⌝ }
 {
     let mut end = at;
-    let mut i: usize = 0;
-    while i < 64 {
-        end = put_fired_id(out, end, code, num, set, i);
-        i = i + 1;
+    let mut k: usize = 0;
+    while k < 128 && k < fired.count {
+        let t = fired.timers[k];
+        end = put_timer(out, end, num, t);
+        k = k + 1;
     }
     end
 }
@@ -127,10 +125,16 @@ fn put_quiet_end(out: &mut [u8], at: usize, end: QuietEnd) -> usize
 }
 
 // The lines of what the card of that number gives.
-pub fn put_outcome(out: &mut [u8], at: usize, card: u64, outcome: CardOutcome) -> usize
+pub fn put_outcome(
+    out: &mut [u8],
+    at: usize,
+    card: u64,
+    outcome: CardOutcome,
+    fired: FiredTimers,
+) -> usize
     requires { ⌜ at + roomOf outcome ≤ length (now out) ⌝ }
-    ensures { λ r. ⌜ r ≡ at + length (outcomeText card outcome) ⌝ }
-    ensures { λ r. ⌜ now (out .exit) ≡ sets (now (out .entry)) at (outcomeText card outcome) ⌝ }
+    ensures { λ r. ⌜ r ≡ at + length (outcomeText card outcome fired) ⌝ }
+    ensures { λ r. ⌜ now (out .exit) ≡ sets (now (out .entry)) at (outcomeText card outcome fired) ⌝ }
 {
     match outcome {
         CardOutcome::Refused(code) => {
@@ -145,9 +149,8 @@ pub fn put_outcome(out: &mut [u8], at: usize, card: u64, outcome: CardOutcome) -
         }
         CardOutcome::Done => at,
         CardOutcome::Acted(lines) => put_actions(out, at, lines),
-        CardOutcome::Fired(num, sent, held, end) => {
-            let held_at = put_fired(out, at, 14, num.0, sent);
-            let end_at = put_fired(out, held_at, 15, num.0, held);
+        CardOutcome::Fired(num, end) => {
+            let end_at = put_fired(out, at, num.0, fired);
             put_quiet_end(out, end_at, end)
         }
     }

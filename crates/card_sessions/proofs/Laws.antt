@@ -9,6 +9,7 @@ use Rattle.lease.specs.declared.SetUpOutcome.{SetUpOutcome}
 use Rattle.lease.specs.declared.SetUpOutcome.the-variants as UO
 use Rattle.lease.specs.declared.AdvanceOutcome.{AdvanceOutcome}
 use Rattle.lease.specs.declared.AdvanceOutcome.the-variants as AO
+use Rattle.lease.specs.declared.FiredTimers.{FiredTimers}
 use Rattle.lease.specs.declared.NoticeOutcome.{NoticeOutcome}
 use Rattle.lease.specs.declared.NoticeOutcome.the-variants as NO
 use Rattle.lease.specs.SetUp.{setupOf}
@@ -19,7 +20,7 @@ use Rattle.card_events.specs.declared.EventRead.the-variants as R
 use Rattle.card_events.specs.declared.CardOutcome.the-variants as O
 use Rattle.card_sessions.specs.declared.Session.{Session}
 use Rattle.card_sessions.specs.declared.CardAnswer.{CardAnswer}
-use Rattle.card_sessions.specs.Sessions.{counted, refusedCard, setUpAnswer, setUpGiven, advanceAnswer, advanceGiven, noticeAnswer, noticeGiven, eventGiven, isTurn, cardGiven}
+use Rattle.card_sessions.specs.Sessions.{counted, givenBy, refusedCard, setUpAnswer, setUpGiven, advanceAnswer, advanceGiven, noticeAnswer, noticeGiven, eventGiven, isTurn, cardGiven}
 use Rattle.card_sessions.specs.Claims.{RefusedKeeps}
 
 -- An answer that, if it refuses, leaves the session as it was.
@@ -27,18 +28,20 @@ abbrev Keeps : Session → CardAnswer → Type 0
 Keeps s a = (k : ℕ) → a .outcome ≡ O.Refused k → a .session ≡ s
 
 refused : (s : Session) (j : ℕ) → Keeps s (refusedCard s j)
-unfolding refusedCard
+unfolding refusedCard givenBy
 refused s j k e = refl
 
 set-up : (s : Session) (o : SetUpOutcome) (m : Manager) → Keeps s (setUpAnswer s o m)
+unfolding givenBy
 set-up s (UO.Refused j) m = refused s j
 set-up s UO.Done m = λ k e. absurd (let z : _≡_ {A = ℕ} 0 1 = cc in omega arith)
 
-advance : (s : Session) (o : AdvanceOutcome) (m : Manager) → Keeps s (advanceAnswer s o m)
-advance s (AO.Refused j) m = refused s j
-advance s (AO.Fired sent held end) m = λ k e. absurd (let z : _≡_ {A = ℕ} 0 1 = cc in omega arith)
+advance : (s : Session) (o : AdvanceOutcome) (fired : FiredTimers) (m : Manager) → Keeps s (advanceAnswer s o fired m)
+advance s (AO.Refused j) fired m = refused s j
+advance s (AO.Fired sent held end) fired m = λ k e. absurd (let z : _≡_ {A = ℕ} 0 1 = cc in omega arith)
 
 notice : (s : Session) (o : NoticeOutcome) (m : Manager) → Keeps s (noticeAnswer s o m)
+unfolding givenBy
 notice s (NO.Refused j) m = refused s j
 notice s (NO.Done lines) m = λ k e. absurd (let z : _≡_ {A = ℕ} 0 1 = cc in omega arith)
 
@@ -49,7 +52,7 @@ event s (E.SetUp u) =
     set-up s (r .outcome) (r .manager)
 event s (E.Advance to) =
     let r = advanceOf (s .manager) to in
-    advance s (r .outcome) (r .manager)
+    advance s (r .advanced .outcome) (r .advanced .fired) (r .manager)
 event s (E.Notice num n) =
     let r = noticeOf (s .manager) num n in
     notice s (r .outcome) (r .manager)

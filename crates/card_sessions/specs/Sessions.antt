@@ -2,6 +2,7 @@
 -- record that the cards before it left. Definitions only.
 use Prim.Native.Nat.{ℕ, _+_}
 use mathlib.Core.Bool.{Bool, true, false, cond, not}
+use mathlib.Core.List.{[]}
 use lib.Dec.{ltb}
 use Rattle.columns.specs.Columns.{maxNumber}
 use Rattle.timer.specs.declared.Reading.{Reading}
@@ -14,6 +15,8 @@ use Rattle.lease.specs.declared.AdvanceOutcome.{AdvanceOutcome}
 use Rattle.lease.specs.declared.AdvanceOutcome.the-variants as AO
 use Rattle.lease.specs.declared.NoticeOutcome.{NoticeOutcome}
 use Rattle.lease.specs.declared.NoticeOutcome.the-variants as NO
+use Rattle.lease.specs.declared.FiredTimers.{FiredTimers}
+use Rattle.lease.specs.Fired.{firedTimers}
 use Rattle.lease.specs.SetUp.{setupOf}
 use Rattle.lease.specs.Rules.{noticeOf, advanceOf}
 use Rattle.card_events.specs.declared.SetUpCall.{SetUpCall}
@@ -23,6 +26,7 @@ use Rattle.card_events.specs.declared.EventRead.{EventRead}
 use Rattle.card_events.specs.declared.EventRead.the-variants as R
 use Rattle.card_sessions.specs.declared.Session.{Session}
 use Rattle.card_sessions.specs.declared.CardAnswer.{CardAnswer}
+use Rattle.card_events.specs.declared.CardOutcome.{CardOutcome}
 use Rattle.card_events.specs.declared.CardOutcome.the-variants as O
 
 -- ---- the state from card to card
@@ -43,15 +47,19 @@ counted s = record { «is_set_up» = s .«is_set_up»; cards = nextCard (s .card
 unfoldable pub withManager : Session → Manager → Session
 withManager s m = record { «is_set_up» = true; cards = s .cards; manager = m }
 
+-- An outcome with no fired timer.
+unfoldable pub givenBy : CardOutcome → Session → CardAnswer
+givenBy outcome s = record { outcome = outcome; fired = firedTimers []; session = s }
+
 -- A refused card changes nothing.
 unfoldable pub refusedCard : Session → ℕ → CardAnswer
-refusedCard s k = record { outcome = O.Refused k; session = s }
+refusedCard s k = givenBy (O.Refused k) s
 
 -- ---- what an event gives, by document 01's rules
 
 abbrev pub setUpAnswer : Session → SetUpOutcome → Manager → CardAnswer
 setUpAnswer s (UO.Refused k) m = refusedCard s k
-setUpAnswer s UO.Done m = record { outcome = O.Done; session = withManager s m }
+setUpAnswer s UO.Done m = givenBy O.Done (withManager s m)
 
 unfoldable pub setUpGiven : Session → SetUpCall → CardAnswer
 setUpGiven s u =
@@ -59,18 +67,19 @@ setUpGiven s u =
     setUpAnswer s (r .outcome) (r .manager)
 
 -- Timers fire under the active number.
-abbrev pub advanceAnswer : Session → AdvanceOutcome → Manager → CardAnswer
-advanceAnswer s (AO.Refused k) m = refusedCard s k
-advanceAnswer s (AO.Fired sent held end) m = record { outcome = O.Fired (m .«active_num») sent held end; session = withManager s m }
+abbrev pub advanceAnswer : Session → AdvanceOutcome → FiredTimers → Manager → CardAnswer
+advanceAnswer s (AO.Refused k) fired m = refusedCard s k
+advanceAnswer s (AO.Fired sent held end) fired m =
+    record { outcome = O.Fired (m .«active_num») end; fired = fired; session = withManager s m }
 
 unfoldable pub advanceGiven : Session → Reading → CardAnswer
 advanceGiven s to =
     let r = advanceOf (s .manager) to in
-    advanceAnswer s (r .outcome) (r .manager)
+    advanceAnswer s (r .advanced .outcome) (r .advanced .fired) (r .manager)
 
 abbrev pub noticeAnswer : Session → NoticeOutcome → Manager → CardAnswer
 noticeAnswer s (NO.Refused k) m = refusedCard s k
-noticeAnswer s (NO.Done lines) m = record { outcome = O.Acted lines; session = withManager s m }
+noticeAnswer s (NO.Done lines) m = givenBy (O.Acted lines) (withManager s m)
 
 unfoldable pub noticeGiven : Session → LeaseNum → LeaseNotice → CardAnswer
 noticeGiven s num notice =

@@ -5,7 +5,9 @@ use card_events::Event;
 use card_events::EventRead;
 use card_events::SetUpCall;
 use clock_calls::advance;
+use fired_order::no_timers;
 use lease::AdvanceOutcome;
+use lease::FiredTimers;
 use lease::LeaseNotice;
 use lease::LeaseNum;
 use lease::Manager;
@@ -15,7 +17,7 @@ use leaseman::add_notice;
 use setup::new_and_setup;
 use timer::Reading;
 ghost use mathlib.Core.Path.{_≡_};
-ghost use Rattle.card_sessions.specs.Sessions.{blankSession, nextCard, counted, withManager, refusedCard, isTurn, setUpGiven, advanceGiven, noticeGiven, eventGiven, cardGiven};
+ghost use Rattle.card_sessions.specs.Sessions.{blankSession, nextCard, counted, withManager, givenBy, refusedCard, isTurn, setUpGiven, advanceGiven, noticeGiven, eventGiven, cardGiven};
 
 // Between two cards: whether a set-up was accepted, how many cards were read, and the manager's record.
 pub struct Session {
@@ -24,8 +26,10 @@ pub struct Session {
     pub manager: Manager,
 }
 
+// What a card gives, the timers that fired (none but by an accepted advance), and the session after it.
 pub struct CardAnswer {
     pub outcome: CardOutcome,
+    pub fired: FiredTimers,
     pub session: Session,
 }
 
@@ -61,13 +65,21 @@ fn counted_session(s: Session) -> Session
     }
 }
 
+// An outcome with no timer.
+fn given(outcome: CardOutcome, session: Session) -> CardAnswer
+    ensures { λ r. ⌜ r ≡ givenBy outcome session ⌝ }
+{
+    CardAnswer {
+        outcome,
+        fired: no_timers(),
+        session,
+    }
+}
+
 fn refused_card(s: Session, code: u8) -> CardAnswer
     ensures { λ r. ⌜ r ≡ refusedCard s code ⌝ }
 {
-    CardAnswer {
-        outcome: CardOutcome::Refused(code),
-        session: s,
-    }
+    given(CardOutcome::Refused(code), s)
 }
 
 // The session after an accepted card.
@@ -101,10 +113,7 @@ fn run_set_up(s: Session, u: SetUpCall) -> CardAnswer
     let manager = a.manager;
     match outcome {
         SetUpOutcome::Refused(code) => refused_card(s, code),
-        SetUpOutcome::Done => CardAnswer {
-            outcome: CardOutcome::Done,
-            session: with_manager(s, manager),
-        },
+        SetUpOutcome::Done => given(CardOutcome::Done, with_manager(s, manager)),
     }
 }
 
@@ -113,14 +122,17 @@ fn run_advance(s: Session, to: Reading) -> CardAnswer
 {
     let before = s.manager;
     let a = advance(before, to);
-    let outcome = a.outcome;
+    let advanced = a.advanced;
+    let outcome = advanced.outcome;
+    let fired = advanced.fired;
     let manager = a.manager;
     match outcome {
         AdvanceOutcome::Refused(code) => refused_card(s, code),
-        AdvanceOutcome::Fired(sent, held, end) => {
+        AdvanceOutcome::Fired(_, _, end) => {
             let num = manager.active_num;
             CardAnswer {
-                outcome: CardOutcome::Fired(num, sent, held, end),
+                outcome: CardOutcome::Fired(num, end),
+                fired,
                 session: with_manager(s, manager),
             }
         }
@@ -136,10 +148,7 @@ fn run_notice(s: Session, num: LeaseNum, notice: LeaseNotice) -> CardAnswer
     let manager = a.manager;
     match outcome {
         NoticeOutcome::Refused(code) => refused_card(s, code),
-        NoticeOutcome::Done(lines) => CardAnswer {
-            outcome: CardOutcome::Acted(lines),
-            session: with_manager(s, manager),
-        },
+        NoticeOutcome::Done(lines) => given(CardOutcome::Acted(lines), with_manager(s, manager)),
     }
 }
 

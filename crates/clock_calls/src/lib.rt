@@ -2,8 +2,10 @@
 // call's own refusals; a refusal answers its number and the record as it came. None has a `requires`.
 use calls::advance_to;
 use calls::set_clock;
+use fired_order::no_timers;
 use lease::AdvanceAnswer;
 use lease::AdvanceOutcome;
+use lease::Advanced;
 use lease::DriftSetting;
 use lease::Manager;
 use lease::PlainAnswer;
@@ -12,7 +14,19 @@ use record_check::is_valid_record;
 use refusals::advance_refusal;
 use timer::Reading;
 ghost use mathlib.Core.Path.{_≡_};
-ghost use Rattle.lease.specs.Rules.{advanceOf, driftOf};
+ghost use Rattle.lease.specs.Rules.{advanceRefused, advanceOf, driftOf};
+
+// Refused by that number, with no timer listed.
+fn refused_advance(m: Manager, code: u8) -> AdvanceAnswer
+    ensures { λ r. ⌜ r ≡ advanceRefused m code ⌝ }
+{
+    let outcome = AdvanceOutcome::Refused(code);
+    let fired = no_timers();
+    AdvanceAnswer {
+        advanced: Advanced { outcome, fired },
+        manager: m,
+    }
+}
 
 // Sets the clock: what is due explodes (added by document 01, for the Rust's sleeper tasks).
 pub fn advance(m: Manager, to: Reading) -> AdvanceAnswer
@@ -25,15 +39,9 @@ pub fn advance(m: Manager, to: Reading) -> AdvanceAnswer
         if code == 0 {
             return advance_to(m, to);
         }
-        return AdvanceAnswer {
-            outcome: AdvanceOutcome::Refused(code),
-            manager: m,
-        };
+        return refused_advance(m, code);
     }
-    AdvanceAnswer {
-        outcome: AdvanceOutcome::Refused(15),
-        manager: m,
-    }
+    refused_advance(m, 15)
 }
 
 // Sets how the clock drifts, for the Rust's global fault state.

@@ -26,7 +26,7 @@ use Rattle.lease.specs.Notices.{acceptedOf}
 use Rattle.lease.specs.Calls.{advanceTo}
 use Rattle.lease.specs.RecordCheck.{recordValid}
 use Rattle.lease.specs.Refusals.{noticeRefusal, advanceRefusal}
-use Rattle.lease.specs.Rules.{noticeGiven, noticeOf, advanceOf, quietOf, refreshOf, driftOf, grantSetOf, leaseSetOf, leaseCntOf, timeLeftOf}
+use Rattle.lease.specs.Rules.{noticeGiven, advanceRefused, noticeOf, advanceOf, quietOf, refreshOf, driftOf, grantSetOf, leaseSetOf, leaseCntOf, timeLeftOf}
 use Rattle.lease.specs.Verdicts.{Call, notice, advance, quiet-start, refresh, drift, grant-set, lease-set, lease-cnt, time-left, byNotice, byAdvance, byPlain, bySet, byCount, byTimeLeft, verdict}
 use Rattle.lease.proofs.Judged.{judged-by}
 use Rattle.log.specs.Log.{journalAt, runFrom}
@@ -60,8 +60,8 @@ module _ (m : Manager) where
   value-notice : (num : LeaseNum) (x : LeaseNotice) (r : NoticeAnswer) → r ≡ noticeOf m num x → Ruled m (notice num x) (afterNotice m (r .outcome) (r .manager))
   value-notice num x r h = ap (λ (z : NoticeAnswer). afterNotice m (z .outcome) (z .manager)) h ∙ by-notice (noticeOf m num x .outcome) (noticeOf m num x .manager)
 
-  value-advance : (to : Reading) (r : AdvanceAnswer) → r ≡ advanceOf m to → Ruled m (advance to) (afterAdvance m (r .outcome) (r .manager))
-  value-advance to r h = ap (λ (z : AdvanceAnswer). afterAdvance m (z .outcome) (z .manager)) h ∙ by-advance (advanceOf m to .outcome) (advanceOf m to .manager)
+  value-advance : (to : Reading) (r : AdvanceAnswer) → r ≡ advanceOf m to → Ruled m (advance to) (afterAdvance m (r .advanced .outcome) (r .manager))
+  value-advance to r h = ap (λ (z : AdvanceAnswer). afterAdvance m (z .advanced .outcome) (z .manager)) h ∙ by-advance (advanceOf m to .advanced .outcome) (advanceOf m to .manager)
 
   -- lent: a refusal leaves the very record
   lent-notice : (num : LeaseNum) (x : LeaseNotice) → noticeOf m num x .manager ≡ leftBy m (verdict m (notice num x))
@@ -73,8 +73,8 @@ module _ (m : Manager) where
   lent-advance : (to : Reading) → advanceOf m to .manager ≡ leftBy m (verdict m (advance to))
   unfolding advanceOf advanceTo
   lent-advance to =
-      judged-by (λ (a : AdvanceAnswer). a .manager ≡ leftBy m (byAdvance (a .outcome) (a .manager))) (recordValid m) (advanceRefusal (m .now) to)
-      (λ k. record { outcome = AO.Refused k; manager = m }) (advanceTo m to) (λ k. refl) (λ z. refl)
+      judged-by (λ (a : AdvanceAnswer). a .manager ≡ leftBy m (byAdvance (a .advanced .outcome) (a .manager))) (recordValid m) (advanceRefusal (m .now) to)
+      (advanceRefused m) (advanceTo m to) (λ k. refl) (λ z. refl)
 
   -- questions
   ask-set : (o : SetOutcome) → m ≡ leftBy m (bySet o m)
@@ -139,7 +139,7 @@ demand-3 me n t hb start s su ok calls m tr g l k ag al ak =
 pub every-list : EveryList
 every-list [] f m = (m, stop)
 every-list (notice num x ∷ cs) f m = let r = every-list cs (f .1) (afterNotice m (noticeOf m num x .outcome) (noticeOf m num x .manager)) in (r .0, step (adds-notice num x (noticeOf m num x) refl) (r .1))
-every-list (advance to ∷ cs) f m = let r = every-list cs (f .1) (afterAdvance m (advanceOf m to .outcome) (advanceOf m to .manager)) in (r .0, step (advances to (advanceOf m to) refl) (r .1))
+every-list (advance to ∷ cs) f m = let r = every-list cs (f .1) (afterAdvance m (advanceOf m to .advanced .outcome) (advanceOf m to .manager)) in (r .0, step (advances to (advanceOf m to) refl) (r .1))
 every-list (quiet-start ∷ cs) f m = let r = every-list cs (f .1) (afterPlain m (quietOf m .outcome) (quietOf m .manager)) in (r .0, step (assumes-unknown-grants (quietOf m) refl) (r .1))
 every-list (refresh set ∷ cs) f m = let r = every-list cs (f .1) (afterSet m (refreshOf m set .outcome) (refreshOf m set .manager)) in (r .0, step (attempts-refresh set (refreshOf m set) refl) (r .1))
 every-list (drift x ∷ cs) f m = let r = every-list cs (f .1) (afterPlain m (driftOf m x .outcome) (driftOf m x .manager)) in (r .0, step (sets-drift x (f .0) (driftOf m x) refl) (r .1))

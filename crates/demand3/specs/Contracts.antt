@@ -18,12 +18,12 @@ use Rattle.lease.specs.declared.LeaseNotice.{LeaseNotice}
 use Rattle.lease.specs.declared.DriftSetting.{DriftSetting}
 use Rattle.lease.specs.declared.Manager.{Manager}
 use Rattle.lease.specs.declared.NoticeOutcome.{NoticeOutcome}
-use Rattle.lease.specs.declared.AdvanceOutcome.{AdvanceOutcome}
 use Rattle.lease.specs.declared.SetOutcome.{SetOutcome}
 use Rattle.lease.specs.declared.CountOutcome.{CountOutcome}
 use Rattle.lease.specs.declared.TimeLeftOutcome.{TimeLeftOutcome}
 use Rattle.lease.specs.declared.SetUpAnswer.{SetUpAnswer}
 use Rattle.lease.specs.declared.NoticeAnswer.{NoticeAnswer}
+use Rattle.lease.specs.declared.Advanced.{Advanced}
 use Rattle.lease.specs.declared.AdvanceAnswer.{AdvanceAnswer}
 use Rattle.lease.specs.declared.PlainAnswer.{PlainAnswer}
 use Rattle.lease.specs.declared.RefreshAnswer.{RefreshAnswer}
@@ -82,8 +82,8 @@ TimeLeft m id r = time-left.Learnt tt (m, (id, tt)) r (m, (id, tt))
 abbrev pub AddNoticeLent : Manager → LeaseNum → LeaseNotice → NoticeOutcome → Manager → Type 0
 AddNoticeLent m num x r m' = (r ≡ noticeOf m num x .outcome) × (m' ≡ noticeOf m num x .manager)
 
-abbrev pub AdvanceLent : Manager → Reading → AdvanceOutcome → Manager → Type 0
-AdvanceLent m to r m' = (r ≡ advanceOf m to .outcome) × (m' ≡ advanceOf m to .manager)
+abbrev pub AdvanceLent : Manager → Reading → Advanced → Manager → Type 0
+AdvanceLent m to r m' = (r ≡ advanceOf m to .advanced) × (m' ≡ advanceOf m to .manager)
 
 -- A contract over a lent struct has no `Learnt`. What it ensures, as the program logic has it, is the fact above and nothing else.
 pub record LentEnsures : Type 2 where
@@ -91,7 +91,7 @@ pub record LentEnsures : Type 2 where
       (at left : RefT Manager) (num : LeaseNum) (x : LeaseNotice) (r : NoticeOutcome)
       → add-notice-lent.clauses 𝓤 H A mem run κs (at, (num, (x, tt))) .ensures tt r (left, (num, (x, tt))) ≡ fact 𝓤 (AddNoticeLent (now at) num x r (now left))
   pub advance : {M : Type 1} (𝓤 : URA M) (H : Heap 𝓤) (κs : Lfts 1) (A : Atoms 𝓤) (mem : Memory → SProp 𝓤) (run : Routine → Fun 𝓤)
-      (at left : RefT Manager) (to : Reading) (r : AdvanceOutcome)
+      (at left : RefT Manager) (to : Reading) (r : Advanced)
       → advance-lent.clauses 𝓤 H A mem run κs (at, (to, tt)) .ensures tt r (left, (to, tt)) ≡ fact 𝓤 (AdvanceLent (now at) to r (now left))
 
 -- The callers that lend.

@@ -24,6 +24,7 @@ use Rattle.lease.specs.declared.TimeLeftOutcome.{TimeLeftOutcome}
 use Rattle.lease.specs.declared.SetUpOutcome.the-variants.{Done}
 use Rattle.lease.specs.declared.SetUpAnswer.{SetUpAnswer}
 use Rattle.lease.specs.declared.NoticeAnswer.{NoticeAnswer}
+use Rattle.lease.specs.declared.Advanced.{Advanced}
 use Rattle.lease.specs.declared.AdvanceAnswer.{AdvanceAnswer}
 use Rattle.lease.specs.declared.PlainAnswer.{PlainAnswer}
 use Rattle.lease.specs.declared.RefreshAnswer.{RefreshAnswer}
@@ -55,16 +56,16 @@ afterSet m (SO.Ids set) m' = m'
 pub data Step (m : Manager) : Call → Manager → Type 0 where
   -- by value
   adds-notice : (num : LeaseNum) (x : LeaseNotice) (r : NoticeAnswer) → AddNotice m num x r → Step m (notice num x) (afterNotice m (r .outcome) (r .manager))
-  advances : (to : Reading) (r : AdvanceAnswer) → Advance m to r → Step m (advance to) (afterAdvance m (r .outcome) (r .manager))
+  advances : (to : Reading) (r : AdvanceAnswer) → Advance m to r → Step m (advance to) (afterAdvance m (r .advanced .outcome) (r .manager))
   assumes-unknown-grants : (r : PlainAnswer) → AssumeUnknownGrants m r → Step m quiet-start (afterPlain m (r .outcome) (r .manager))
   attempts-refresh : (set : PeerSet) (r : RefreshAnswer) → AttemptRefresh m set r → Step m (refresh set) (afterSet m (r .outcome) (r .manager))
   -- the setting is an i8, as the function's type says
   sets-drift : (x : DriftSetting) → Typed (drift x) → (r : PlainAnswer) → SetDrift m x r → Step m (drift x) (afterPlain m (r .outcome) (r .manager))
   -- lent
   adds-notice-lent : (num : LeaseNum) (x : LeaseNotice) (r : NoticeOutcome) (m' : Manager) → AddNoticeLent m num x r m' → Step m (notice num x) m'
-  advances-lent : (to : Reading) (r : AdvanceOutcome) (m' : Manager) → AdvanceLent m to r m' → Step m (advance to) m'
+  advances-lent : (to : Reading) (r : Advanced) (m' : Manager) → AdvanceLent m to r m' → Step m (advance to) m'
   adds-notice-lending : (num : LeaseNum) (x : LeaseNotice) (r : NoticeAnswer) → AddNoticeLending m num x r → Step m (notice num x) (afterNotice m (r .outcome) (r .manager))
-  advances-lending : (to : Reading) (r : AdvanceAnswer) → AdvanceLending m to r → Step m (advance to) (afterAdvance m (r .outcome) (r .manager))
+  advances-lending : (to : Reading) (r : AdvanceAnswer) → AdvanceLending m to r → Step m (advance to) (afterAdvance m (r .advanced .outcome) (r .manager))
   -- questions
   asks-grant-set : (r : SetOutcome) → GrantSet m r → Step m grant-set m
   asks-lease-set : (r : SetOutcome) → LeaseSet m r → Step m lease-set m

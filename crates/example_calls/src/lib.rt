@@ -81,7 +81,8 @@ fn fired(o: AdvanceOutcome) -> u64 {
 }
 
 pub fn advanced(a: AdvanceAnswer) -> Done {
-    let outcome = a.outcome;
+    let advanced = a.advanced;
+    let outcome = advanced.outcome;
     let manager = a.manager;
     Done {
         manager,

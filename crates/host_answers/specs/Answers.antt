@@ -1,5 +1,7 @@
--- An answer as the record that crosses to C: 0 or the number of its refusal, and at most three lines of plain numbers. Definitions only.
+-- An answer as the record that crosses to C: 0 or the number of its refusal, at most three lines of plain numbers, and the
+-- timers that fired. Definitions only.
 use Prim.Native.Nat.{ℕ}
+use mathlib.Core.List.{[]}
 use Rattle.bitmap.specs.declared.Bitmap.{Bitmap}
 use Rattle.lease.specs.declared.Lines.{Lines}
 use Rattle.lease.specs.declared.Lines.the-variants as L
@@ -11,6 +13,8 @@ use Rattle.lease.specs.declared.NoticeOutcome.{NoticeOutcome}
 use Rattle.lease.specs.declared.NoticeOutcome.the-variants as NO
 use Rattle.lease.specs.declared.AdvanceOutcome.{AdvanceOutcome}
 use Rattle.lease.specs.declared.AdvanceOutcome.the-variants as AO
+use Rattle.lease.specs.declared.FiredTimers.{FiredTimers}
+use Rattle.lease.specs.declared.Advanced.{Advanced}
 use Rattle.lease.specs.declared.PlainOutcome.{PlainOutcome}
 use Rattle.lease.specs.declared.PlainOutcome.the-variants as PO
 use Rattle.lease.specs.declared.SetOutcome.{SetOutcome}
@@ -19,17 +23,18 @@ use Rattle.lease.specs.declared.CountOutcome.{CountOutcome}
 use Rattle.lease.specs.declared.CountOutcome.the-variants as CO
 use Rattle.lease.specs.declared.TimeLeftOutcome.{TimeLeftOutcome}
 use Rattle.lease.specs.declared.TimeLeftOutcome.the-variants as TO
+use Rattle.lease.specs.Fired.{firedTimers}
 use Rattle.host_lines.specs.declared.LineC.{LineC}
 use Rattle.host_lines.specs.Lines.{noLine, lineOf, firedLine, setLine, countLine, timeLeftLine}
 use Rattle.host_answers.specs.declared.AnswerC.{AnswerC}
 
--- Accepted, with that many lines.
+-- Accepted, with that many lines and no timer.
 abbrev pub accepted : ℕ → LineC → LineC → LineC → AnswerC
-accepted n a b c = record { refused = 0; count = n; one = a; two = b; three = c }
+accepted n a b c = record { refused = 0; count = n; one = a; two = b; three = c; fired = firedTimers [] }
 
--- Refused by that number, with no line.
+-- Refused by that number, with no line and no timer.
 unfoldable pub refusedAnswer : ℕ → AnswerC
-refusedAnswer k = record { refused = k; count = 0; one = noLine; two = noLine; three = noLine }
+refusedAnswer k = record { refused = k; count = 0; one = noLine; two = noLine; three = noLine; fired = firedTimers [] }
 
 unfoldable pub noLines : AnswerC
 noLines = accepted 0 noLine noLine noLine
@@ -55,9 +60,16 @@ unfoldable pub firedAnswer : Bitmap → Bitmap → QuietEnd → AnswerC
 firedAnswer sent held Q.None = oneLine (firedLine sent held)
 firedAnswer sent held (Q.Given line) = twoLines (firedLine sent held) (lineOf line)
 
-unfoldable pub advanceAnswer : AdvanceOutcome → AnswerC
-advanceAnswer (AO.Refused k) = refusedAnswer k
-advanceAnswer (AO.Fired sent held end) = firedAnswer sent held end
+unfoldable pub advanceLines : AdvanceOutcome → AnswerC
+advanceLines (AO.Refused k) = refusedAnswer k
+advanceLines (AO.Fired sent held end) = firedAnswer sent held end
+
+abbrev pub withFired : AnswerC → FiredTimers → AnswerC
+withFired a fired = record { refused = a .refused; count = a .count; one = a .one; two = a .two; three = a .three; fired = fired }
+
+-- And the timers in order.
+unfoldable pub advanceAnswer : Advanced → AnswerC
+advanceAnswer a = withFired (advanceLines (a .outcome)) (a .fired)
 
 unfoldable pub plainAnswer : PlainOutcome → AnswerC
 plainAnswer (PO.Refused k) = refusedAnswer k

@@ -1,6 +1,8 @@
-// Answers as the records that cross to C: 0 or the number of a refusal, and at most three lines of plain numbers. Every
+// Answers as the records that cross to C: 0 or the number of a refusal, at most three lines of plain numbers, and the
+// timers that fired. Every
 // contract says that the result equals a definition of specs/Answers.antt.
 use bitmap::Bitmap;
+use fired_order::no_timers;
 use host_lines::LineC;
 use host_lines::fired_line;
 use host_lines::line_c;
@@ -9,7 +11,9 @@ use host_lines::no_line;
 use host_lines::set_line;
 use host_lines::time_left_line;
 use lease::AdvanceOutcome;
+use lease::Advanced;
 use lease::CountOutcome;
+use lease::FiredTimers;
 use lease::Lines;
 use lease::NoticeOutcome;
 use lease::PlainOutcome;
@@ -18,9 +22,10 @@ use lease::SetOutcome;
 use lease::SetUpOutcome;
 use lease::TimeLeftOutcome;
 ghost use mathlib.Core.Path.{_≡_};
-ghost use Rattle.host_answers.specs.Answers.{accepted, refusedAnswer, noLines, oneLine, twoLines, linesAnswer, noticeAnswer, firedAnswer, advanceAnswer, plainAnswer, setupAnswer, setAnswer, countAnswer, timeLeftAnswer};
+ghost use Rattle.host_answers.specs.Answers.{accepted, refusedAnswer, noLines, oneLine, twoLines, linesAnswer, noticeAnswer, firedAnswer, advanceLines, advanceAnswer, plainAnswer, setupAnswer, setAnswer, countAnswer, timeLeftAnswer};
 
-// Refused is 0, or the number of the refusal; count is how many lines there are, the others are zeros.
+// Refused is 0, or the number of the refusal; count is how many lines there are, the others are zeros. Any call but
+// advance lists no timer.
 #[repr(C)]
 pub struct AnswerC {
     pub refused: u64,
@@ -28,6 +33,7 @@ pub struct AnswerC {
     pub one: LineC,
     pub two: LineC,
     pub three: LineC,
+    pub fired: FiredTimers,
 }
 
 fn accepted_with(count: u64, one: LineC, two: LineC, three: LineC) -> AnswerC
@@ -39,6 +45,7 @@ fn accepted_with(count: u64, one: LineC, two: LineC, three: LineC) -> AnswerC
         one,
         two,
         three,
+        fired: no_timers(),
     }
 }
 
@@ -53,6 +60,7 @@ pub fn refused_answer(code: u8) -> AnswerC
         one: none,
         two: none,
         three: none,
+        fired: no_timers(),
     }
 }
 
@@ -109,12 +117,32 @@ fn fired_answer(sent: Bitmap, held: Bitmap, end: QuietEnd) -> AnswerC
     }
 }
 
-pub fn advance_answer(outcome: AdvanceOutcome) -> AnswerC
-    ensures { λ r. ⌜ r ≡ advanceAnswer outcome ⌝ }
+fn advance_lines(outcome: AdvanceOutcome) -> AnswerC
+    ensures { λ r. ⌜ r ≡ advanceLines outcome ⌝ }
 {
     match outcome {
         AdvanceOutcome::Refused(code) => refused_answer(code),
         AdvanceOutcome::Fired(sent, held, end) => fired_answer(sent, held, end),
+    }
+}
+
+// With the timers in order.
+pub fn advance_answer(advanced: Advanced) -> AnswerC
+    ensures { λ r. ⌜ r ≡ advanceAnswer advanced ⌝ }
+{
+    let outcome = advanced.outcome;
+    let a = advance_lines(outcome);
+    let fired = advanced.fired;
+    let one = a.one;
+    let two = a.two;
+    let three = a.three;
+    AnswerC {
+        refused: a.refused,
+        count: a.count,
+        one,
+        two,
+        three,
+        fired,
     }
 }
 

@@ -63,8 +63,8 @@ pub fn advance_c(f: ManagerC, c: CallC) -> CalledC
 {
     let m = manager_of(f);
     let a = advance(m, Reading(c.number));
-    let outcome = a.outcome;
+    let advanced = a.advanced;
     let manager = a.manager;
-    let answer = advance_answer(outcome);
+    let answer = advance_answer(advanced);
     left_by(f, answer, manager)
 }

@@ -13,6 +13,7 @@ use Rattle.lease.specs.declared.QuietEnd.the-variants as Q
 use Rattle.lease.specs.declared.Manager.{Manager}
 use Rattle.lease.specs.declared.NoticeOutcome.{NoticeOutcome}
 use Rattle.lease.specs.declared.NoticeOutcome.the-variants as NO
+use Rattle.lease.specs.declared.FiredTimers.{FiredTimers}
 use Rattle.lease.specs.declared.AdvanceOutcome.{AdvanceOutcome}
 use Rattle.lease.specs.declared.AdvanceOutcome.the-variants as AO
 use Rattle.lease.specs.declared.PlainOutcome.{PlainOutcome}
@@ -34,7 +35,7 @@ use Rattle.log.specs.Program.{leftBy}
 use Rattle.host_record.specs.declared.ManagerC.{ManagerC}
 use Rattle.host_record.specs.Flat.{flatOf}
 use Rattle.host_record.proofs.Laws.{there-and-back, flat-is-record}
-use Rattle.host_answers.specs.Answers.{refusedAnswer, noLines, oneLine, twoLines, linesAnswer, noticeAnswer, firedAnswer, advanceAnswer, plainAnswer, setupAnswer, setAnswer, countAnswer}
+use Rattle.host_answers.specs.Answers.{refusedAnswer, noLines, oneLine, twoLines, linesAnswer, noticeAnswer, firedAnswer, advanceLines, advanceAnswer, plainAnswer, setupAnswer, setAnswer, countAnswer}
 use Rattle.host_cards.specs.declared.CallC.{CallC}
 use Rattle.host_cards.specs.Cards.{isCall, leaseNoticeOf, peerSetOf, percentOf, driftSettingOf}
 use Rattle.host_cards.proofs.Percent.{fits8}
@@ -60,12 +61,12 @@ module _ (m : Manager) where
   notice-left (NO.Done (L.Two a b)) m' h = refl
   notice-left (NO.Done (L.Three a b c)) m' h = refl
 
-  advance-left : (o : AdvanceOutcome) (m' : Manager) → ((k : ℕ) → o ≡ AO.Refused k → m' ≡ m)
-      → left (flatOf m) (advanceAnswer o) m' .manager ≡ flatOf (leftBy m (byAdvance o m'))
-  unfolding left advanceAnswer refusedAnswer firedAnswer oneLine twoLines
-  advance-left (AO.Refused k) m' h = refused-left (eqb k 0) m m' (h k refl)
-  advance-left (AO.Fired sent held Q.None) m' h = refl
-  advance-left (AO.Fired sent held (Q.Given line)) m' h = refl
+  advance-left : (o : AdvanceOutcome) (fired : FiredTimers) (m' : Manager) → ((k : ℕ) → o ≡ AO.Refused k → m' ≡ m)
+      → left (flatOf m) (advanceAnswer (record { outcome = o; fired = fired })) m' .manager ≡ flatOf (leftBy m (byAdvance o m'))
+  unfolding left advanceAnswer advanceLines refusedAnswer firedAnswer oneLine twoLines
+  advance-left (AO.Refused k) fired m' h = refused-left (eqb k 0) m m' (h k refl)
+  advance-left (AO.Fired sent held Q.None) fired m' h = refl
+  advance-left (AO.Fired sent held (Q.Given line)) fired m' h = refl
 
   plain-left : (o : PlainOutcome) (m' : Manager) → ((k : ℕ) → o ≡ PO.Refused k → m' ≡ m)
       → left (flatOf m) (plainAnswer o) m' .manager ≡ flatOf (leftBy m (byPlain o m'))
@@ -108,8 +109,8 @@ module _ (m : Manager) where
   unfolding advanceC
   advance-leaves c =
       let to : Reading = record { 0 = c .number } in
-      subst (λ (z : Manager). Leaves (left (flatOf m) (advanceAnswer (advanceOf z to .outcome)) (advanceOf z to .manager)) (advance to)) (sym (there-and-back m))
-      (advance-left (advanceOf m to .outcome) (advanceOf m to .manager) (refusals-keep m .advances to))
+      subst (λ (z : Manager). Leaves (left (flatOf m) (advanceAnswer (advanceOf z to .advanced)) (advanceOf z to .manager)) (advance to)) (sym (there-and-back m))
+      (advance-left (advanceOf m to .advanced .outcome) (advanceOf m to .advanced .fired) (advanceOf m to .manager) (refusals-keep m .advances to))
 
   quiet-leaves : Leaves (quietC (flatOf m)) quiet-start
   unfolding quietC

@@ -37,7 +37,7 @@ noticeC f c =
 unfoldable pub advanceC : ManagerC → CallC → CalledC
 advanceC f c =
     let r = advanceOf (managerOf f) (record { 0 = c .number }) in
-    left f (advanceAnswer (r .outcome)) (r .manager)
+    left f (advanceAnswer (r .advanced)) (r .manager)
 
 unfoldable pub quietC : ManagerC → CalledC
 quietC f =

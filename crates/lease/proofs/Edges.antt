@@ -35,7 +35,7 @@ use Rattle.lease.specs.Calls.{advanceTo, assumeUnknownGrants, attemptRef
 use Rattle.lease.specs.RecordCheck.{rowValid, rowEmpty, rowValidAt, rowsValid, limitsValid, recordValid}
 use Rattle.lease.specs.Refusals.{noticeRefusal, advanceRefusal, refreshRefusal}
 use Rattle.lease.specs.SetUp.{setupRefusal, fresh, setupOf}
-use Rattle.lease.specs.Rules.{noticeGiven, noticeOf, advanceOf, quietOf, refreshOf, driftOf, grantSetOf, leaseSetOf, leaseCntOf, timeLeftOf}
+use Rattle.lease.specs.Rules.{noticeGiven, advanceRefused, noticeOf, advanceOf, quietOf, refreshOf, driftOf, grantSetOf, leaseSetOf, leaseCntOf, timeLeftOf}
 use Rattle.lease.specs.Verdicts.{linesOf}
 use Rattle.lease.proofs.Judged.{judged-by, plainOf}
 use Rattle.lease.specs.Edges.{farCalls, refusalAsks, refusalAnswers, farAt, FarReached, FarAccepted, BeyondRefused, Refusals, SetUpRefusals, AtMostThree, RefusalsKeep, RefusedSetUp}
@@ -83,11 +83,11 @@ module _ (m : Manager) where
       (λ j. record { outcome = NO.Refused j; manager = m }) (noticeGiven (acceptedOf m num x)) (λ j e. refl)
       (λ z e. absurd (let w : _≡_ {A = ℕ} 0 1 = cc in omega arith))
 
-  advances-keep : (to : Reading) (k : ℕ) → advanceOf m to .outcome ≡ AO.Refused k → advanceOf m to .manager ≡ m
+  advances-keep : (to : Reading) (k : ℕ) → advanceOf m to .advanced .outcome ≡ AO.Refused k → advanceOf m to .manager ≡ m
   unfolding advanceOf advanceTo
   advances-keep to k =
-      judged-by (λ (r : AdvanceAnswer). r .outcome ≡ AO.Refused k → r .manager ≡ m) (recordValid m) (advanceRefusal (m .now) to)
-      (λ j. record { outcome = AO.Refused j; manager = m }) (advanceTo m to) (λ j e. refl) (λ z e. absurd (let w : _≡_ {A = ℕ} 0 1 = cc in omega arith))
+      judged-by (λ (r : AdvanceAnswer). r .advanced .outcome ≡ AO.Refused k → r .manager ≡ m) (recordValid m) (advanceRefusal (m .now) to)
+      (advanceRefused m) (advanceTo m to) (λ j e. refl) (λ z e. absurd (let w : _≡_ {A = ℕ} 0 1 = cc in omega arith))
 
   refreshes-keep : (to : PeerSet) (k : ℕ) → refreshOf m to .outcome ≡ SO.Refused k → refreshOf m to .manager ≡ m
   unfolding refreshOf attemptRefresh

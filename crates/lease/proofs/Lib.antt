@@ -1,6 +1,10 @@
 pub mod Tests
+pub mod RecordCheck
 pub mod Tables
 pub mod Judged
+pub mod FiredOrder
+pub mod Due
+pub mod Fired
 pub mod Shift
 pub mod Slips
 pub mod Edges

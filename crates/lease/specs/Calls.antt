@@ -25,11 +25,13 @@ use Rattle.lease.specs.declared.LeaseAction.the-variants.{GrantTimeout}
 use Rattle.lease.specs.declared.Manager.{Manager}
 use Rattle.lease.specs.declared.Pass.{Pass}
 use Rattle.lease.specs.declared.Pass.the-variants as P
+use Rattle.lease.specs.declared.FiredTimer.{FiredTimer}
 use Rattle.lease.specs.declared.AdvanceOutcome.the-variants as AO
 use Rattle.lease.specs.declared.AdvanceAnswer.{AdvanceAnswer}
 use Rattle.lease.specs.declared.SetOutcome.the-variants as SO
 use Rattle.lease.specs.declared.RefreshAnswer.{RefreshAnswer}
 use Rattle.lease.specs.Rows.{rowAt}
+use Rattle.lease.specs.Fired.{firedOf, firedTimers}
 use Rattle.lease.specs.Notices.{line, passOn, withPeers}
 
 -- The record with another reading, clock and quiet timer, and other rows.
@@ -73,14 +75,22 @@ assumeUnknownGrants m =
 
 -- ---- advance
 
+-- The timers that fire, in order (document 02, wish 2): those of the two sets, by the deadlines that they have before they explode.
+unfoldable pub firedBy : Manager → Reading → List FiredTimer
+firedBy m to = firedOf (m .peers) (passOn m (P.Advance to) .first) (passOn m (P.Advance to) .second)
+
 -- Sets the clock; each armed timer with deadline at or below it explodes once. It answers the set of peers whose sent timers and the
--- set whose held timers fired.
+-- set whose held timers fired, and these timers in order.
 unfoldable pub advanceTo : Manager → Reading → AdvanceAnswer
 advanceTo m to =
     record {
-      outcome =
-          AO.Fired (passOn m (P.Advance to) .first) (passOn m (P.Advance to) .second)
-          (quietEnd (quietFires to (m .«quiet_timer»)) (m .me) (m .population));
+      advanced =
+          record {
+            outcome =
+                AO.Fired (passOn m (P.Advance to) .first) (passOn m (P.Advance to) .second)
+                (quietEnd (quietFires to (m .«quiet_timer»)) (m .me) (m .population));
+            fired = firedTimers (firedBy m to);
+          };
       manager = withTime m to (m .clock) (quietAt to (m .«quiet_timer»)) (passOn m (P.Advance to) .peers);
     }
 

@@ -105,7 +105,7 @@ AtMostThree = (m : Manager) (num : LeaseNum) (x : LeaseNotice) → length (lines
 
 pub record RefusalsKeep (m : Manager) : Type 0 where
   pub notices : (num : LeaseNum) (x : LeaseNotice) (k : ℕ) → noticeOf m num x .outcome ≡ NO.Refused k → noticeOf m num x .manager ≡ m
-  pub advances : (to : Reading) (k : ℕ) → advanceOf m to .outcome ≡ AO.Refused k → advanceOf m to .manager ≡ m
+  pub advances : (to : Reading) (k : ℕ) → advanceOf m to .advanced .outcome ≡ AO.Refused k → advanceOf m to .manager ≡ m
   pub quiet-starts : (k : ℕ) → quietOf m .outcome ≡ PO.Refused k → quietOf m .manager ≡ m
   pub refreshes : (to : PeerSet) (k : ℕ) → refreshOf m to .outcome ≡ SO.Refused k → refreshOf m to .manager ≡ m
   pub drifts : (x : DriftSetting) (k : ℕ) → driftOf m x .outcome ≡ PO.Refused k → driftOf m x .manager ≡ m

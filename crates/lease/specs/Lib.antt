@@ -3,12 +3,15 @@ pub mod Rows
 pub mod Handlers
 pub mod Passes
 pub mod Notices
+pub mod Fired
 pub mod Calls
 pub mod Limits
 pub mod RecordCheck
 pub mod Refusals
 pub mod SetUp
 pub mod Rules
+pub mod FiredClaims
+pub mod FiredExamples
 pub mod Verdicts
 pub mod Shift
 pub mod Slips

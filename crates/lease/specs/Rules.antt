@@ -1,5 +1,6 @@
 -- THE RULES: what each call on a record gives, refusals first. Set-up's stands in SetUp. Definitions only.
 use Prim.Native.Nat.{ℕ}
+use mathlib.Core.List.{[]}
 use Rattle.timer.specs.declared.Reading.{Reading}
 use Rattle.lease.specs.declared.PeerSet.{PeerSet}
 use Rattle.lease.specs.declared.LeaseNum.{LeaseNum}
@@ -20,6 +21,7 @@ use Rattle.lease.specs.declared.NoticeAnswer.{NoticeAnswer}
 use Rattle.lease.specs.declared.AdvanceAnswer.{AdvanceAnswer}
 use Rattle.lease.specs.declared.PlainAnswer.{PlainAnswer}
 use Rattle.lease.specs.declared.RefreshAnswer.{RefreshAnswer}
+use Rattle.lease.specs.Fired.{firedTimers}
 use Rattle.lease.specs.Notices.{acceptedOf}
 use Rattle.lease.specs.Calls.{advanceTo, assumeUnknownGrants, attemptRefresh, setDrift, grantSet, leaseSet, leaseCnt, timeLeft}
 use Rattle.lease.specs.RecordCheck.{recordValid}
@@ -36,8 +38,12 @@ noticeOf m num notice =
     judged (recordValid m) (noticeRefusal (m .population) (m .me) notice) (λ k. record { outcome = NO.Refused k; manager = m })
     (noticeGiven (acceptedOf m num notice))
 
+-- A refused advance lists no timer.
+abbrev pub advanceRefused : Manager → ℕ → AdvanceAnswer
+advanceRefused m k = record { advanced = record { outcome = AO.Refused k; fired = firedTimers [] }; manager = m }
+
 unfoldable pub advanceOf : Manager → Reading → AdvanceAnswer
-advanceOf m to = judged (recordValid m) (advanceRefusal (m .now) to) (λ k. record { outcome = AO.Refused k; manager = m }) (advanceTo m to)
+advanceOf m to = judged (recordValid m) (advanceRefusal (m .now) to) (advanceRefused m) (advanceTo m to)
 
 -- `assume_unknown_grants`
 unfoldable pub quietOf : Manager → PlainAnswer

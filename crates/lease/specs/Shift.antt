@@ -69,7 +69,7 @@ start = setupOf 0 3 1000000000 0 (ms 0) .manager
 
 abbrev pub answer : Manager → Call → Answer
 answer m (notice num x) = noticed (noticeOf m num x .outcome)
-answer m (advance to) = advanced (advanceOf m to .outcome)
+answer m (advance to) = advanced (advanceOf m to .advanced .outcome)
 answer m quiet-start = plain (quietOf m .outcome)
 answer m (refresh to) = set (refreshOf m to .outcome)
 answer m (drift x) = plain (driftOf m x .outcome)

@@ -73,7 +73,7 @@ byTimeLeft (TO.Left x) m = done [] m
 
 abbrev pub verdict : Manager → Call → Verdict
 verdict m (notice num x) = byNotice (noticeOf m num x .outcome) (noticeOf m num x .manager)
-verdict m (advance to) = byAdvance (advanceOf m to .outcome) (advanceOf m to .manager)
+verdict m (advance to) = byAdvance (advanceOf m to .advanced .outcome) (advanceOf m to .manager)
 verdict m quiet-start = byPlain (quietOf m .outcome) (quietOf m .manager)
 verdict m (refresh set) = bySet (refreshOf m set .outcome) (refreshOf m set .manager)
 verdict m (drift x) = byPlain (driftOf m x .outcome) (driftOf m x .manager)

@@ -189,6 +189,22 @@ pub struct Accepted {
     pub manager: Manager,
 }
 
+// A timer that fired: on which side, and whose. The id is a byte, as in the Rust, and the two structs are laid out as
+// in C, so that the list crosses to a host as it is.
+#[repr(C)]
+pub struct FiredTimer {
+    // The held side; else the sent side.
+    pub held: bool,
+    pub id: u8,
+}
+
+// The timers that fired, in order: the first `count` places. The others hold the sent timer of the id 0.
+#[repr(C)]
+pub struct FiredTimers {
+    pub count: usize,
+    pub timers: [FiredTimer; 128],
+}
+
 // The quiet-end line (document 01's term), if advance gives it.
 pub enum QuietEnd {
     None,
@@ -223,6 +239,13 @@ pub enum AdvanceOutcome {
     Refused(u8),
     // The peers whose sent timers fired, those whose held timers fired, and the quiet-end line.
     Fired(Bitmap, Bitmap, QuietEnd),
+}
+
+// What advance answers: the sets, and the same timers as a list in order (document 02, wish 2). A struct, as an enum
+// cannot hold an array. The list of a refused advance is empty.
+pub struct Advanced {
+    pub outcome: AdvanceOutcome,
+    pub fired: FiredTimers,
 }
 
 // Of `assume_unknown_grants` and the drift setting.
@@ -260,7 +283,7 @@ pub struct NoticeAnswer {
 }
 
 pub struct AdvanceAnswer {
-    pub outcome: AdvanceOutcome,
+    pub advanced: Advanced,
     pub manager: Manager,
 }
 

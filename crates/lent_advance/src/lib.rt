@@ -3,28 +3,28 @@
 // whoever calls it needs no proof about lending.
 use clock_calls::advance;
 use lease::AdvanceAnswer;
-use lease::AdvanceOutcome;
+use lease::Advanced;
 use lease::Manager;
 use timer::Reading;
 ghost use mathlib.Core.Path.{_≡_};
 ghost use Rattle.lease.specs.Rules.{advanceOf};
 
 // Advance on a lent record.
-pub fn advance_lent(m: &mut Manager, to: Reading) -> AdvanceOutcome
-    ensures { λ r. ⌜ (r ≡ advanceOf (now (m .entry)) to .outcome) × (now (m .exit) ≡ advanceOf (now (m .entry)) to .manager) ⌝ }
+pub fn advance_lent(m: &mut Manager, to: Reading) -> Advanced
+    ensures { λ r. ⌜ (r ≡ advanceOf (now (m .entry)) to .advanced) × (now (m .exit) ≡ advanceOf (now (m .entry)) to .manager) ⌝ }
 {
     let answer = advance(*m, to);
     *m = answer.manager;
-    answer.outcome
+    answer.advanced
 }
 
 pub fn advance_lending(m: Manager, to: Reading) -> AdvanceAnswer
     ensures { λ r. ⌜ r ≡ advanceOf m to ⌝ }
 {
     let mut lent = m;
-    let outcome = advance_lent(&mut lent, to);
+    let advanced = advance_lent(&mut lent, to);
     AdvanceAnswer {
-        outcome,
+        advanced,
         manager: lent,
     }
 }

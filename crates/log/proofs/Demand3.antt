@@ -44,7 +44,7 @@ use Rattle.lease.specs.Limits.{within, timeoutValid, populationValid, ownValid,
 use Rattle.lease.specs.RecordCheck.{rowEmpty, rowValidAt, rowsValid, quietValid, limitsValid, recordValid}
 use Rattle.lease.specs.Notices.{actedUnder, onPeer, handleNewGrants, handleDoRevoke, handleClearHeld, raisedTo, handleNotice, acceptedOf, outdated, numbered}
 use Rattle.lease.specs.Calls.{isQuiet, advanceTo, assumeUnknownGrants, attemptRefresh, setDrift, grantSet, leaseSet, leaseCnt}
-use Rattle.lease.specs.Rules.{grantSetOf, leaseSetOf, leaseCntOf, timeLeftOf, noticeGiven, noticeOf, advanceOf, quietOf, refreshOf, driftOf}
+use Rattle.lease.specs.Rules.{grantSetOf, leaseSetOf, leaseCntOf, timeLeftOf, noticeGiven, advanceRefused, noticeOf, advanceOf, quietOf, refreshOf, driftOf}
 use Rattle.lease.specs.SetUp.{setupRefusal, fresh, setupOf}
 use Rattle.lease.specs.Refusals.{noticeRefusal, advanceRefusal, refreshRefusal}
 use Rattle.lease.proofs.Judged.{judged-by, plainOf}
@@ -140,8 +140,8 @@ module _ (r : Run) (i : Inv (r .manager) (r .journal)) where
   advance-step : (to : Reading) → RunInv r (stepped r (advance to) (verdict m (advance to)))
   unfolding advanceOf advanceTo
   advance-step to =
-      judged-by (λ (a : AdvanceAnswer). RunInv r (stepped r (advance to) (byAdvance (a .outcome) (a .manager)))) (recordValid m) (advanceRefusal (m .now) to)
-      (λ k. record { outcome = AO.Refused k; manager = m }) (advanceTo m to) (λ k. same-run)
+      judged-by (λ (a : AdvanceAnswer). RunInv r (stepped r (advance to) (byAdvance (a .advanced .outcome) (a .manager)))) (recordValid m) (advanceRefusal (m .now) to)
+      (advanceRefused m) (advanceTo m to) (λ k. same-run)
       (λ z. let h = in-time to z in (advance-inv m j i to (h .0) (h .1), record { me-kept = refl; n-kept = refl; t-kept = refl }))
 
   -- a quiet start and a drift setting, which 15 alone refuses

@@ -44,7 +44,7 @@ afterTimeout =
 -- The advance gives (0, GrantTimeout 1), and so does the notice that follows. The first is left out of the log, and 1 is still in the
 -- grant set; the second ends the promise.
 pub record OneCounts : Type 0 where
-  pub quiet-line : advanceOf (beforeEnd .manager) (ms 2000) .outcome ≡ AO.Fired (bitmapOf 3 2) (bitmapOf 3 0) (QE.Given (under 0 (A.GrantTimeout 1)))
+  pub quiet-line : advanceOf (beforeEnd .manager) (ms 2000) .advanced .outcome ≡ AO.Fired (bitmapOf 3 2) (bitmapOf 3 0) (QE.Given (under 0 (A.GrantTimeout 1)))
   pub notice-line : noticeOf (afterEnd .manager) (no 0) (N.GrantTimeout 1) .outcome ≡ NO.Done (L.One (under 0 (A.GrantTimeout 1)))
   pub promised : promiseLines (afterEnd .journal .log) ≡ 1
   pub not-ended : endedLines (afterEnd .journal .log) ≡ 0

@@ -1,9 +1,9 @@
 // Replays calls through the host library's call by value, a card a line on standard input, and writes what it
 // answers and the record that it leaves. The file stdin holds calls, and stdout what the Rust answered to them.
-// Lines: 1 to 13 and 31 to 34 as in host_lines; 20 a refused call, its number in first; and after each accepted
-// call that is no question the record: 40 (the active number, now, and the quiet deadline or 0), then for each id
-// with anything in its row 41 (the tag, the id, the deadline of its sent timer and of its held timer, or 0). The tag
-// is 100 x mark + 10 x held + sent, where
+// Lines: 1 to 13 and 31 to 34 as in host_lines; after an advance the fired timers in order, 14 sent and 15 held; 20 a
+// refused call, its number in first; and after each accepted call that is no question the record: 40 (the active
+// number, now, and the quiet deadline or 0), then for each id with anything in its row 41 (the tag, the id, the deadline
+// of its sent timer and of its held timer, or 0). The tag is 100 x mark + 10 x held + sent, where
 //     sent  0 none; guard 1 unarmed, 2 armed, 3 exploded; promise 8 unarmed, 4 armed, 5 exploded, and revoking 9, 6, 7
 //     held  0 none; guard 5 unarmed, 1 armed, 2 exploded; promise 6 unarmed, 3 armed, 4 exploded
 use biasflint::call;
@@ -13,6 +13,7 @@ use host_flat::flat_record;
 use host_lines::LineC;
 use host_record::ManagerC;
 use host_record::PeerC;
+use lease::FiredTimer;
 use sample_columns::next_card;
 use sample_columns::write_line;
 use setup::new_and_setup;
@@ -123,6 +124,28 @@ fn write_lines(a: AnswerC) {
     }
 }
 
+// Writes a fired timer.
+fn write_timer(t: FiredTimer) {
+    let code = if t.held { 15 } else { 14 };
+    write_line(LineC {
+        code,
+        number: 0,
+        peer: t.id as u64,
+        first: 0,
+        second: 0,
+    });
+}
+
+// Writes the timers that fired, in order.
+fn write_fired(count: usize, timers: [FiredTimer; 128]) {
+    let mut k: usize = 0;
+    while k < 128 && k < count {
+        let t = timers[k];
+        write_timer(t);
+        k = k + 1;
+    }
+}
+
 fn write_refusal(k: u64) {
     write_line(LineC {
         code: 20,
@@ -142,6 +165,9 @@ fn run_card(before: ManagerC, c: CallC) -> ManagerC {
         write_refusal(answer.refused);
     } else {
         write_lines(answer);
+        let fired = answer.fired;
+        let timers = fired.timers;
+        write_fired(fired.count, timers);
         write_record(c.code, manager);
     }
     manager

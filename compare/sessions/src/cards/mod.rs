@@ -210,7 +210,10 @@ fn expected_lines(cards: &Cards, answers: &[String]) -> io::Result<String> {
     for (i, expected) in cards.expected.iter().enumerate() {
         let lines = match *expected {
             Expected::Refused(k) => sample::refused_line(k, i as u64 + 1),
-            Expected::Answered(at) => sample::replay_lines(&cards.calls[at], &answers[at]),
+            Expected::Answered(at) => {
+                let before = if at > 0 { sample::state_of(&answers[at - 1]) } else { "" };
+                sample::replay_lines(&cards.calls[at], before, &answers[at])
+            }
         };
         let lines =
             lines.ok_or_else(|| io::Error::other(format!("no answer to card {}", i + 1)))?;

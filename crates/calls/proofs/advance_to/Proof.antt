@@ -1,5 +1,6 @@
 -- `calls::advance_to` meets its contract. Assumes nothing.
-use Rattle.lease.specs.Calls.{advanceTo}
+use Rattle.lease.specs.Calls.{advanceTo, firedBy}
+use Rattle.lease.specs.Passes.{passOver}
 use Rattle.passes.specs.Fits.{RowsFit}
 use borrow.Author.Needs.{needs}
 use Rattle.calls.proofs.advance_to.Statement.{statement}
@@ -25,12 +26,18 @@ quiet-at-requires c κs = search needs
 quiet-end-requires : tie.Need-quiet-end-requires
 quiet-end-requires c κs = search needs
 
+fired-timers-requires : tie.Need-fired-timers-requires
+unfolding passOver
+fired-timers-requires c κs =
+    let p = c .before .before .before .before .before .pass-over .ensures in
+    (rw p (search needs), rw p (search needs))
+
 with-time-requires : tie.Need-with-time-requires
 with-time-requires c κs = search needs
 
 returns : tie.Need-returns
-unfolding advanceTo
-returns c = simp (c .with-time .ensures, c .before .before .before .before .quiet-end .ensures, c .before .before .before .before .before .quiet-at .ensures, c .before .before .before .before .before .before .quiet-fires .ensures, ← c .before .before .before .before .before .before .before .pass-over .ensures)
+unfolding advanceTo firedBy
+returns c = simp (c .with-time .ensures, c .before .before .fired-timers .ensures, c .before .before .before .before .before .quiet-end .ensures, c .before .before .before .before .before .before .quiet-at .ensures, c .before .before .before .before .before .before .before .quiet-fires .ensures, ← c .before .before .before .before .before .before .before .before .pass-over .ensures)
 
 pub advance-to-spec : {M : Type 1} → statement M
 advance-to-spec =
@@ -40,5 +47,6 @@ advance-to-spec =
     quiet-fires-requires
     quiet-at-requires
     quiet-end-requires
+    fired-timers-requires
     with-time-requires
     returns)

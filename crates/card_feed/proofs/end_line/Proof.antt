@@ -13,7 +13,7 @@ take-card-requires c κs = search needs
 
 put-outcome-requires : tie.Need-put-outcome-requires
 unfolding lineGiven
-put-outcome-requires c κs = simp (c .before .before .take-card .ensures, c .before .before .before .read-partial .ensures) (search needs)
+put-outcome-requires c κs = simp (c .before .before .before .take-card .ensures, c .before .before .before .before .read-partial .ensures) (search needs)
 
 same-length : tie.Need-same-length
 same-length c = search needs
@@ -22,7 +22,7 @@ returns : tie.Need-returns
 unfolding givenText lineGiven ended
 returns c =
     let p = c .before .before .before in
-    let t = p .before .before .before in
+    let t = p .before .before .before .before in
     simp (p .put-outcome .ensures .0, p .put-outcome .ensures .1, t .take-card .ensures, t .before .read-partial .ensures) (refl, (refl, refl))
 
 pub end-line-spec : {M : Type 1} → statement M

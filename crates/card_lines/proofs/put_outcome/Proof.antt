@@ -1,8 +1,7 @@
 -- `card_lines::put_outcome` meets its contract. Assumes nothing.
-use mathlib.Core.List.{_++_}
 use native.Mathlib.Omega.{arith}
 use borrow.Author.Needs.{needs}
-use Rattle.bitmap.specs.Bitmaps.{capacity}
+use Rattle.lease.specs.Fired.{listedIn}
 use Rattle.card_lines.specs.Lines.{textOf, firedLines, quietLines, outcomeLines, roomOf}
 use Rattle.card_lines.proofs.Text.{textOf-one, laid-then, fired-end}
 use Rattle.card_lines.proofs.put_outcome.Statement.{statement}
@@ -11,8 +10,8 @@ use Rattle.card_lines.proofs.put_outcome.Tie as tie
 enum-known-outcome : tie.Need-enum-known-outcome
 enum-known-outcome c = search needs
 
-cast-t15 : tie.Need-cast-t15
-cast-t15 c = search needs
+cast-t13 : tie.Need-cast-t13
+cast-t13 c = search needs
 
 put-line-requires : tie.Need-put-line-requires
 unfolding roomOf
@@ -35,20 +34,13 @@ put-fired-requires : tie.Need-put-fired-requires
 unfolding roomOf
 put-fired-requires c κs = omega (arith, rw (c .before .before .outcome3 .given .1) at (c .before .before .before .before .before .pre))
 
-put-fired-requires-2 : tie.Need-put-fired-requires-2
-unfolding roomOf
-put-fired-requires-2 c κs =
-    let one = c .before .before .before .put-fired in
-    let s = c .before .before .before .before .before .before .before .before .before in
-    omega (arith, rw (c .before .before .before .before .before .before .outcome3 .given .1) at (s .pre), one .kept .0, fired-end (s .args .at) (one .result) 14 _ _ (one .ensures .0))
-
 put-quiet-end-requires : tie.Need-put-quiet-end-requires
 unfolding roomOf
 put-quiet-end-requires c κs =
-    let one = c .before .before .before .before .before .before .before .put-fired in
-    let two = c .before .before .before .put-fired2 in
-    let s = c .before .before .before .before .before .before .before .before .before .before .before .before .before in
-    omega (arith, rw (c .before .before .before .before .before .before .before .before .before .before .outcome3 .given .1) at (s .pre), one .kept .0, two .kept .0, fired-end (s .args .at) (one .result) 14 _ _ (one .ensures .0), fired-end (one .result) (two .result) 15 _ _ (two .ensures .0))
+    let w = c .before .before .before .put-fired in
+    let known = c .before .before .before .before .before .before in
+    let s = known .before .before .before in
+    omega (arith, rw (known .outcome3 .given .1) at (s .pre), w .kept .0, fired-end (s .args .at) (w .result) _ (s .args .fired) (w .ensures .0))
 
 same-length : tie.Need-same-length
 same-length c = search needs
@@ -74,27 +66,25 @@ same-length-3 c = search needs
 returns-4 : tie.Need-returns-4
 unfolding outcomeLines
 returns-4 c =
-    let one = c .before .before .before .before .before .before .before .before .before .before .put-fired in
-    let two = c .before .before .before .before .before .before .put-fired2 in
-    let three = c .before .before .put-quiet-end in
-    let a = c .before .before .before .before .before .before .before .before .before .before .before .before .before .before .before .before .args in
-    let front = laid-then (a .out .now) (one .last .0) (two .last .0) (a .at) (one .result) (two .result) (firedLines 14 _ _ capacity) (firedLines 15 _ _ capacity) (one .ensures) (two .ensures) in
-    rw (c .before .before .before .before .before .before .before .before .before .before .before .before .before .outcome3 .given .1)
-    (laid-then (a .out .now) (two .last .0) (three .last .0) (a .at) (two .result) (three .result) (firedLines 14 _ _ capacity ++ firedLines 15 _ _ capacity) (quietLines _) front (three .ensures))
+    let front = c .before .before .before .before .before .before .put-fired in
+    let rest = c .before .before .put-quiet-end in
+    let known = c .before .before .before .before .before .before .before .before .before in
+    let a = known .before .before .before .args in
+    rw (known .outcome3 .given .1)
+    (laid-then (a .out .now) (front .last .0) (rest .last .0) (a .at) (front .result) (rest .result) (firedLines _ (listedIn (a .fired))) (quietLines _) (front .ensures) (rest .ensures))
 
 pub put-outcome-spec : {M : Type 1} → statement M
 put-outcome-spec =
     tie.close
     (tie.spec
     enum-known-outcome
-    cast-t15
+    cast-t13
     put-line-requires
     enum-told
     enum-known-outcome-2
     put-actions-requires
     enum-known-outcome-3
     put-fired-requires
-    put-fired-requires-2
     put-quiet-end-requires
     same-length
     returns

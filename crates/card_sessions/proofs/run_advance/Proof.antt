@@ -21,11 +21,11 @@ with-manager-requires c κs = search needs
 
 returns : tie.Need-returns
 unfolding advanceGiven
-returns c = simp (c .refused-card .ensures, c .before .before .outcome .given .1, ← c .before .before .before .before .before .advance .ensures)
+returns c = simp (c .refused-card .ensures, c .before .before .outcome .given .1, ← c .before .before .before .before .before .before .before .advance .ensures)
 
 returns-2 : tie.Need-returns-2
 unfolding advanceGiven
-returns-2 c = simp (c .with-manager .ensures, c .before .before .before .outcome2 .given .1, ← c .before .before .before .before .before .before .advance .ensures)
+returns-2 c = simp (c .with-manager .ensures, c .before .before .before .outcome2 .given .1, ← c .before .before .before .before .before .before .before .before .advance .ensures)
 
 pub run-advance-spec : {M : Type 1} → statement M
 run-advance-spec =

@@ -19,13 +19,16 @@ enum-known-outcome-2 c = search needs
 with-manager-requires : tie.Need-with-manager-requires
 with-manager-requires c κs = search needs
 
+given-requires : tie.Need-given-requires
+given-requires c κs = search needs
+
 returns : tie.Need-returns
 unfolding noticeGiven
 returns c = simp (c .refused-card .ensures, c .before .before .outcome .given .1, ← c .before .before .before .before .before .add-notice .ensures)
 
 returns-2 : tie.Need-returns-2
 unfolding noticeGiven
-returns-2 c = simp (c .with-manager .ensures, c .before .before .outcome2 .given .1, ← c .before .before .before .before .before .add-notice .ensures)
+returns-2 c = simp (c .given .ensures, c .before .with-manager .ensures, c .before .before .before .outcome2 .given .1, ← c .before .before .before .before .before .before .add-notice .ensures)
 
 pub run-notice-spec : {M : Type 1} → statement M
 run-notice-spec =
@@ -36,5 +39,6 @@ run-notice-spec =
     refused-card-requires
     enum-known-outcome-2
     with-manager-requires
+    given-requires
     returns
     returns-2)

@@ -19,13 +19,16 @@ enum-told c = search needs
 with-manager-requires : tie.Need-with-manager-requires
 with-manager-requires c κs = search needs
 
+given-requires : tie.Need-given-requires
+given-requires c κs = search needs
+
 returns : tie.Need-returns
 unfolding setUpGiven
 returns c = simp (c .refused-card .ensures, c .before .before .outcome .given .1, ← c .before .before .before .before .before .new-and-setup .ensures)
 
 returns-2 : tie.Need-returns-2
 unfolding setUpGiven
-returns-2 c = simp (c .with-manager .ensures, c .before .enum-told .given .1, ← c .before .before .before .before .new-and-setup .ensures)
+returns-2 c = simp (c .given .ensures, c .before .with-manager .ensures, c .before .before .enum-told .given .1, ← c .before .before .before .before .before .new-and-setup .ensures)
 
 pub run-set-up-spec : {M : Type 1} → statement M
 run-set-up-spec =
@@ -36,5 +39,6 @@ run-set-up-spec =
     refused-card-requires
     enum-told
     with-manager-requires
+    given-requires
     returns
     returns-2)

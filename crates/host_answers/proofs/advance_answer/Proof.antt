@@ -5,36 +5,14 @@ use Rattle.host_answers.proofs.advance_answer.Statement.{statement}
 use Rattle.host_answers.proofs.advance_answer.Tie as tie
 use Rattle.host_answers.proofs.advance_answer.Reads as reads
 use Rattle.host_answers.proofs.advance_answer.Lts as lts
-use Rattle.host_answers.proofs.fired_answer.Reads as fired-answer-reads
-use Rattle.host_answers.proofs.refused_answer.Reads as refused-answer-reads
+use Rattle.host_answers.proofs.advance_lines.Reads as advance-lines-reads
 
-enum-known-outcome : tie.Need-enum-known-outcome
-enum-known-outcome c = search needs
-
-refused-answer-requires : tie.Need-refused-answer-requires
-refused-answer-requires c κs = search needs
-
-enum-known-outcome-2 : tie.Need-enum-known-outcome-2
-enum-known-outcome-2 c = search needs
-
-fired-answer-requires : tie.Need-fired-answer-requires
-fired-answer-requires c κs = search needs
+advance-lines-requires : tie.Need-advance-lines-requires
+advance-lines-requires c κs = search needs
 
 returns : tie.Need-returns
 unfolding advanceAnswer
-returns c = simp (c .refused-answer .ensures, c .before .before .outcome .given .1)
-
-returns-2 : tie.Need-returns-2
-unfolding advanceAnswer
-returns-2 c = simp (c .fired-answer .ensures, c .before .before .outcome2 .given .1)
+returns c = simp (c .before .before .before .before .advance-lines .ensures)
 
 pub advance-answer-spec : {M : Type 1} → statement M
-advance-answer-spec =
-    tie.close
-    (tie.spec
-    enum-known-outcome
-    refused-answer-requires
-    enum-known-outcome-2
-    fired-answer-requires
-    returns
-    returns-2)
+advance-answer-spec = tie.close (tie.spec advance-lines-requires returns)

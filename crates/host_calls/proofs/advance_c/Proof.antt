@@ -24,7 +24,7 @@ left-by-requires c κs = search needs
 
 returns : tie.Need-returns
 unfolding advanceC
-returns c = simp (c .left-by .ensures, c .before .advance-answer .ensures, c .before .before .before .advance .ensures, c .before .before .before .before .manager-of .ensures)
+returns c = simp (c .left-by .ensures, c .before .advance-answer .ensures, c .before .before .before .before .advance .ensures, c .before .before .before .before .before .manager-of .ensures)
 
 pub advance-c-spec : {M : Type 1} → statement M
 advance-c-spec =

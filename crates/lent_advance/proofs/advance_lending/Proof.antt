@@ -25,7 +25,6 @@ use denote.Memory.{pointee}
 use denote.Ref.{RefT, MutRef}
 use denote.Steps.{only, owned, peeks, heard, nothing}
 use denote.Struct.Laws as LL
-use denote.Enum.Laws as EL
 use denote.Triple.Statement.{Contract, Triple}
 use denote.Triple.Clauses.{ensured, lasts}
 use denote.Triple.Entry.{onEntry}
@@ -39,14 +38,14 @@ use Rattle.lent_walks.proofs.AdvanceKit.{out-val, out-tells, out-typed, p1-val,
 use Rattle.lease.specs.declared.Manager.{Manager}
 use Rattle.lease.specs.declared.AdvanceAnswer.{AdvanceAnswer}
 use Rattle.timer.specs.declared.Reading.{Reading}
-use Rattle.lease.specs.declared.AdvanceOutcome.{AdvanceOutcome}
+use Rattle.lease.specs.declared.Advanced.{Advanced}
 use Rattle.lease.specs.Rules.{advanceOf}
 use Rattle.lease.proofs.Manager as T
 use Rattle.lease.proofs.Manager.Laws as T′
 use Rattle.lease.proofs.AdvanceAnswer as S
 use Rattle.lease.proofs.AdvanceAnswer.Laws as S′
-use Rattle.lease.proofs.AdvanceOutcome as O
-use Rattle.lease.proofs.AdvanceOutcome.Laws as O′
+use Rattle.lease.proofs.Advanced as O
+use Rattle.lease.proofs.Advanced.Laws as O′
 use Rattle.timer.proofs.Reading as P1
 use Rattle.timer.proofs.Reading.Laws as P1′
 use Rattle.lent_advance.proofs.advance_lent as lent
@@ -75,11 +74,11 @@ module _ {M : Type 1} (𝓤 : URA M) (H : Heap 𝓤) (A : Atoms 𝓤) (W : Given
   abbrev Post : Val → SProp 𝓤
   Post = walkOf 𝓤 H A f.ended stayed (f.clauses 𝓤 H A at-mem run) .post ((tt, tt, tt, (h, (x1, tt)), at), tt)
 
-  -- what `advance_lent` ensures of its outcome and of the record's last value, and what is known of the outcome at its machine value
-  abbrev Ensured : AdvanceOutcome → Manager → Type 0
-  Ensured r z = (r ≡ advanceOf h x1 .outcome) × (z ≡ advanceOf h x1 .manager)
+  -- what `advance_lent` ensures of its answer and of the record's last value, and what is known of the answer at its machine value
+  abbrev Ensured : Advanced → Manager → Type 0
+  Ensured r z = (r ≡ advanceOf h x1 .advanced) × (z ≡ advanceOf h x1 .manager)
 
-  abbrev Good : AdvanceOutcome → Manager → Val → Type 0
+  abbrev Good : Advanced → Manager → Val → Type 0
   Good r z w = Ensured r z × Is O.the-row r (w ∷ [])
 
   -- the reference to the local at l, under the name δ, what `advance_lent`'s triple binds outside, that the token and the reference are what it asks, and what it gives
@@ -94,19 +93,19 @@ module _ {M : Type 1} (𝓤 : URA M) (H : Heap 𝓤) (A : Atoms 𝓤) (W : Given
       qed W (‵ (flft (ι ∷ []) fullShare) ∷ ‵ (MutRef (named 0) (ι ∷ []) T.the-row .own (x l δ) (vptr l 0 ∷ [])) ∷ []) ∵
       nothing ! $ owned ! P1.the-row (Is P1.the-row) (LL.makes P1.the-type P1′.the-plain 𝓤 H A) x1 _ is1 $ fjoin ! $ move ! (2 ∷ 0 ∷ []) $ fjoin ! $ nothing ! $ move ! (2 ∷ 0 ∷ []) $ join ! $ join ! $ frame ! $ done !
 
-  answers : (ι l : ℕ) (δ : GName) (w : Val) → ent 𝓤 (Lent 𝓤 H A at-mem run .post (to-lent ι l δ) w) (H .⇛ (ex 𝓤 (λ (rz : AdvanceOutcome × Manager). guard 𝓤 (Good (rz .0) (rz .1) w) (sep 𝓤 (A .lft (ι ∷ []) fullShare) (A .res δ (T.the-row .coded .code (rz .1)))))))
+  answers : (ι l : ℕ) (δ : GName) (w : Val) → ent 𝓤 (Lent 𝓤 H A at-mem run .post (to-lent ι l δ) w) (H .⇛ (ex 𝓤 (λ (rz : Advanced × Manager). guard 𝓤 (Good (rz .0) (rz .1) w) (sep 𝓤 (A .lft (ι ∷ []) fullShare) (A .res δ (T.the-row .coded .code (rz .1)))))))
   answers ι l δ w =
       qed W (raw (Lent 𝓤 H A at-mem run .post (to-lent ι l δ) w) ∷ []) ∵ updating ! $
-      use1 W (later (some (λ (r : AdvanceOutcome). ((‵ (flft (ι ∷ []) fullShare) ⊛ ‵ ftrue) ⊛ ‵ (O.the-row .own r (w ∷ []))) ⊛ raw (ensured 𝓤 H A lent.ended (lent.clauses 𝓤 H A at-mem run) (ι ∷ [], tt) (x l δ, (x1, tt)) tt r)))) (id⊢ 𝓤 _) $ await ! tt $ pick ! (λ r.
+      use1 W (later (some (λ (r : Advanced). ((‵ (flft (ι ∷ []) fullShare) ⊛ ‵ ftrue) ⊛ ‵ (O.the-row .own r (w ∷ []))) ⊛ raw (ensured 𝓤 H A lent.ended (lent.clauses 𝓤 H A at-mem run) (ι ∷ [], tt) (x l δ, (x1, tt)) tt r)))) (id⊢ 𝓤 _) $ await ! tt $ pick ! (λ r.
       -- what `advance_lent` ensures, at some last record
       split ! $ move ! (1 ∷ []) $ use1 W (some (λ (zs : Manager × (Unit {0} × (Unit {0}))). ‵ (lasts lent.ended (ι ∷ [], tt) (x l δ, (x1, tt)) zs) ⊛ raw (fact 𝓤 (Ensured r (zs .0))))) (id⊢ 𝓤 _) $ pick ! (λ zs.
       split ! $ move ! (1 ∷ []) $ heard ! (Ensured r (zs .0)) (λ e. fsplit ! $ move ! (2 ∷ []) $ split ! $ move ! (1 ∷ []) $ peeks ! O.the-row (Is O.the-row) (shows 𝓤 H A O.the-row) r (w ∷ []) (λ is. drop ! $ split ! $
       -- [the token; true; the last value; true]
-      at-once ! $ show ! (λ (rz : AdvanceOutcome × Manager). guard 𝓤 (Good (rz .0) (rz .1) w) (sep 𝓤 (A .lft (ι ∷ []) fullShare) (A .res δ (T.the-row .coded .code (rz .1))))) (r, zs .0) $ check ! (e, is) $ keep ! (0 ∷ 2 ∷ []) $ done !))))
+      at-once ! $ show ! (λ (rz : Advanced × Manager). guard 𝓤 (Good (rz .0) (rz .1) w) (sep 𝓤 (A .lft (ι ∷ []) fullShare) (A .res δ (T.the-row .coded .code (rz .1))))) (r, zs .0) $ check ! (e, is) $ keep ! (0 ∷ 2 ∷ []) $ done !))))
 
-  module _ (r : AdvanceOutcome) (z : Manager) (w : Val) (good : Good r z w) (is-z : Is T.the-row z (vals z)) where
+  module _ (r : Advanced) (z : Manager) (w : Val) (good : Good r z w) (is-z : Is T.the-row z (vals z)) where
     abbrev ans : AdvanceAnswer
-    ans = record { outcome = r; manager = z }
+    ans = record { advanced = r; manager = z }
 
     is-ans : Is S.the-row ans (ans-val ans ∷ [])
     is-ans = ans-owes ans (out-known r w (good .1)) is-z
@@ -114,7 +113,7 @@ module _ {M : Type 1} (𝓤 : URA M) (H : Heap 𝓤) (A : Atoms 𝓤) (W : Given
     exits : ent 𝓤 (emp 𝓤) (Post (ans-val ans))
     exits =
         qed W [] ∵ suffices ! _ (ends-at 𝓤 H A f.ended stayed (f.clauses 𝓤 H A at-mem run) W ((tt, tt, tt, (h, (x1, tt)), at), tt) (ans-val ans) ans (tt, (tt, tt)) (tt, (tt, tt))) $
-        says ! (λ i. record { outcome = good .0 .0 i; manager = good .0 .1 i }) $
+        says ! (λ i. record { advanced = good .0 .0 i; manager = good .0 .1 i }) $
         owned ! S.the-row (Is S.the-row) (LL.makes S.the-type S′.the-plain 𝓤 H A) ans _ is-ans $ nothing ! $ owned ! P1.the-row (Is P1.the-row) (LL.makes P1.the-type P1′.the-plain 𝓤 H A) x1 _ is1 $ fjoin ! $ owned ! T.the-row (Is T.the-row) (LL.makes T.the-type T′.the-plain 𝓤 H A) h _ was $ fjoin ! $ nothing ! $ done !
 
   module _ (C : Calls 𝓤 H) (Λ : Loops 𝓤 H) (fm : FmC 𝓤 H (W .laws) C) (known : Triple 𝓤 (C #lent·advance-lent) (Lent 𝓤 H A at-mem run)) where
@@ -124,7 +123,7 @@ module _ {M : Type 1} (𝓤 : URA M) (H : Heap 𝓤) (A : Atoms 𝓤) (W : Given
         alloc1 ! (λ l0. alloc1 ! (λ l1. alloc1 ! (λ l2. alloc1 ! (λ l3. alloc1 ! (λ l4. alloc1 ! (λ l5. alloc1 ! (λ l6. alloc0 ! $ params1 ! $
         pass1 ! (init ! 10 refl (typed 𝓤 H A W h _ was)) $ pass1 ! (init ! 8 refl (p1-typed 𝓤 H A W x1 _ is1)) $ pass0 ! $
         starts Manager (T.the-row .written) (T.the-row .reaches) (T.the-row .own) (T.the-row .exit) (T.the-row .coded) T′.mir 𝓤 H A W val tells (typed 𝓤 H A W) (LL.makes T.the-type T′.the-plain 𝓤 H A)
-        O′.mir (tyRef erased mut (pointee (T.the-row .written))) P1′.mir (S.struct .name) AdvanceOutcome out-val Good (λ r z w good. ap only (out-tells r (w ∷ []) (good .1))) (λ r z w good. out-typed 𝓤 H A W r w (good .1))
+        O′.mir (tyRef erased mut (pointee (T.the-row .written))) P1′.mir (S.struct .name) Advanced out-val Good (λ r z w good. ap only (out-tells r (w ∷ []) (good .1))) (λ r z w good. out-typed 𝓤 H A W r w (good .1))
         (λ r z w good is-z. ans-typed 𝓤 H A W (ans r z w good is-z) _ (is-ans r z w good is-z)) (λ l. tt) h was (p1-val x1) Post exits C Λ l0 l1 l2 l3 l4 l5 l6 #lent·advance-lent fm
         (λ ι l δ. Lent 𝓤 H A at-mem run .post (to-lent ι l δ)) (λ ι l δ. via 𝓤 (Lent 𝓤 H A at-mem run .pre (to-lent ι l δ)) (goes-lent ι l δ) (known (to-lent ι l δ))) answers)))))))
 

@@ -26,7 +26,6 @@ use denote.Ref.{RefT, MutRef, ptr-vals, mut-tells}
 use denote.Signature.{plain}
 use denote.Steps.{only, owned, peeks, heard, nothing}
 use denote.Struct.Laws as LL
-use denote.Enum.Laws as EL
 use denote.Triple.Statement.{Contract, Triple}
 use denote.Triple.Clauses.{ensured, lasts}
 use denote.Triple.Entry.{onEntry}
@@ -45,8 +44,8 @@ use Rattle.lease.proofs.Manager as T
 use Rattle.lease.proofs.Manager.Laws as T′
 use Rattle.lease.proofs.AdvanceAnswer as S
 use Rattle.lease.proofs.AdvanceAnswer.Laws as S′
-use Rattle.lease.proofs.AdvanceOutcome as O
-use Rattle.lease.proofs.AdvanceOutcome.Laws as O′
+use Rattle.lease.proofs.Advanced as O
+use Rattle.lease.proofs.Advanced.Laws as O′
 use Rattle.timer.proofs.Reading as P1
 use Rattle.timer.proofs.Reading.Laws as P1′
 use Rattle.clock_calls.proofs.advance as core
@@ -99,14 +98,14 @@ module _ {M : Type 1} (𝓤 : URA M) (H : Heap 𝓤) (A : Atoms 𝓤) (W : Given
       split ! $ move ! (1 ∷ []) $ use1 W (raw (fact 𝓤 (r ≡ advanceOf h x1))) (ensures-core r) $ heard ! (r ≡ advanceOf h x1) (λ e. split ! $ drop ! $
       peeks ! S.the-row (Is S.the-row) (shows 𝓤 H A S.the-row) r (w ∷ []) (λ is. drop ! $ at-once ! $ show ! (λ (r′ : AdvanceAnswer). guard 𝓤 (Good r′ w) (emp 𝓤)) r $ check ! (e, is) $ nothing ! $ done !)))
 
-  exits : (r : AdvanceAnswer) (w : Val) → Good r w → ent 𝓤 (sep 𝓤 (A .obs γ (T.the-row .coded .code (r .manager))) (sep 𝓤 (A .bor κ (Body (mem T.the-row) b o γ)) (A .lft κ q))) (Post (out-val (r .outcome)))
+  exits : (r : AdvanceAnswer) (w : Val) → Good r w → ent 𝓤 (sep 𝓤 (A .obs γ (T.the-row .coded .code (r .manager))) (sep 𝓤 (A .bor κ (Body (mem T.the-row) b o γ)) (A .lft κ q))) (Post (out-val (r .advanced)))
   exits r w good =
       qed W (‵ (fobs γ (T.the-row .coded .code (r .manager))) ∷ ‵ (fbor κ (Body (mem T.the-row) b o γ)) ∷ ‵ (flft κ q) ∷ []) ∵
-      suffices ! _ (ends-at 𝓤 H A f.ended stayed (f.clauses 𝓤 H A at-mem run) W (((κ, tt), (q, tt), tt, x, at), tt) (out-val (r .outcome)) (r .outcome) (r .manager, (tt, tt)) (tt, (tt, tt))) $
-      says ! ((λ i. good .0 i .outcome), (λ i. good .0 i .manager)) $
+      suffices ! _ (ends-at 𝓤 H A f.ended stayed (f.clauses 𝓤 H A at-mem run) W (((κ, tt), (q, tt), tt, x, at), tt) (out-val (r .advanced)) (r .advanced) (r .manager, (tt, tt)) (tt, (tt, tt))) $
+      says ! ((λ i. good .0 i .advanced), (λ i. good .0 i .manager)) $
       nothing ! $ move ! (3 ∷ 0 ∷ []) $ join ! $ frame ! $ feqI ! (List Val) (vptr b o ∷ []) (vptr b o ∷ []) refl $ fjoin3 ! $
       nothing ! $ owned ! P1.the-row (Is P1.the-row) (LL.makes P1.the-type P1′.the-plain 𝓤 H A) x1 _ is1 $ fjoin ! $ move ! (1 ∷ 0 ∷ []) $ fjoin ! $
-      owned ! O.the-row (Is O.the-row) (EL.makes O.the-type O′.the-plain 𝓤 H A) (r .outcome) _ (ans-out r _ (good .1)) $ move ! (1 ∷ 0 ∷ []) $ done !
+      owned ! O.the-row (Is O.the-row) (LL.makes O.the-type O′.the-plain 𝓤 H A) (r .advanced) _ (ans-out r _ (good .1)) $ move ! (1 ∷ 0 ∷ []) $ done !
 
   module _ (C : Calls 𝓤 H) (Λ : Loops 𝓤 H) (fm : FmC 𝓤 H (W .laws) C) (known : Triple 𝓤 (C #clock_calls·advance) (Core 𝓤 H A at-mem run)) where
     walk : ent 𝓤 (onEntry 𝓤 H A f.signature (κ, tt) (q, tt) x at) (WpFn 𝓤 H C Λ code.function (vptr b o ∷ p1-val x1 ∷ []) Post)
@@ -117,8 +116,8 @@ module _ {M : Type 1} (𝓤 : URA M) (H : Heap 𝓤) (A : Atoms 𝓤) (W : Given
         alloc1 ! (λ l0. alloc1 ! (λ l1. alloc1 ! (λ l2. alloc1 ! (λ l3. alloc1 ! (λ l4. alloc0 ! $ params1 ! $
         pass1 ! (init ! 6 refl (tt, tt)) $ pass1 ! (init ! 4 refl (p1-typed 𝓤 H A W x1 _ is1)) $ pass0 ! $ move ! (10 ∷ 11 ∷ 12 ∷ []) $
         starts Manager (T.the-row .written) (T.the-row .reaches) (T.the-row .own) (T.the-row .exit) (T.the-row .coded) T′.mir 𝓤 H A W O′.mir (tyRef (named 0) mut (pointee (T.the-row .written))) P1′.mir (S.struct .name)
-        val tells (typed 𝓤 H A W) (LL.makes T.the-type T′.the-plain 𝓤 H A) AdvanceAnswer (λ r. r .manager) (λ r. out-val (r .outcome))
-        Good (λ r w good. ap only (ans-tells r (w ∷ []) (good .1))) (λ r w good. ans-typed 𝓤 H A W r w (good .1)) (λ r w good. out-typed 𝓤 H A W (r .outcome) _ (ans-out r (w ∷ []) (good .1))) (λ r w good. ans-manager r (w ∷ []) (good .1))
+        val tells (typed 𝓤 H A W) (LL.makes T.the-type T′.the-plain 𝓤 H A) AdvanceAnswer (λ r. r .manager) (λ r. out-val (r .advanced))
+        Good (λ r w good. ap only (ans-tells r (w ∷ []) (good .1))) (λ r w good. ans-typed 𝓤 H A W r w (good .1)) (λ r w good. out-typed 𝓤 H A W (r .advanced) _ (ans-out r (w ∷ []) (good .1))) (λ r w good. ans-manager r (w ∷ []) (good .1))
         κ q b o γ h (p1-val x1) Post exits C Λ l0 l1 l2 l3 l4 #clock_calls·advance fm (Core 𝓤 H A at-mem run .post to-core) (via 𝓤 (Core 𝓤 H A at-mem run .pre to-core) goes-core (known to-core)) answers)))))
 
 module _ {M : Type 1} (𝓤 : URA M) (H : Heap 𝓤) (A : Atoms 𝓤) (W : Given 𝓤 H A) (mem : Memory → SProp 𝓤) (run : Routine → Fun 𝓤) where

@@ -1,0 +1,2 @@
+-- The deadlines of all timers, as a list.
+pub mod Deadlines

@@ -1,0 +1,2 @@
+-- A list of fired timers as the code puts it together.
+pub mod Lists
