@@ -74,8 +74,8 @@ pub fn advance_to(m: Manager, to: Reading) -> AdvanceAnswer
     let end = quiet_end(fired, m.me, m.population);
     let sent = p.first;
     let held = p.second;
-    let fired = fired_timers(peers, sent, held);
     let after = p.peers;
+    let fired = fired_timers(peers, sent, held);
     let clock = m.clock;
     let manager = with_time(m, to, clock, quiet_timer, after);
     let outcome = AdvanceOutcome::Fired(sent, held, end);

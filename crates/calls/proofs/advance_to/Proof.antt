@@ -29,7 +29,7 @@ quiet-end-requires c κs = search needs
 fired-timers-requires : tie.Need-fired-timers-requires
 unfolding passOver
 fired-timers-requires c κs =
-    let p = c .before .before .before .before .before .pass-over .ensures in
+    let p = c .before .before .before .before .before .before .pass-over .ensures in
     (rw p (search needs), rw p (search needs))
 
 with-time-requires : tie.Need-with-time-requires
@@ -37,7 +37,7 @@ with-time-requires c κs = search needs
 
 returns : tie.Need-returns
 unfolding advanceTo firedBy
-returns c = simp (c .with-time .ensures, c .before .before .fired-timers .ensures, c .before .before .before .before .before .quiet-end .ensures, c .before .before .before .before .before .before .quiet-at .ensures, c .before .before .before .before .before .before .before .quiet-fires .ensures, ← c .before .before .before .before .before .before .before .before .pass-over .ensures)
+returns c = simp (c .with-time .ensures, c .before .fired-timers .ensures, c .before .before .before .before .before .quiet-end .ensures, c .before .before .before .before .before .before .quiet-at .ensures, c .before .before .before .before .before .before .before .quiet-fires .ensures, ← c .before .before .before .before .before .before .before .before .pass-over .ensures)
 
 pub advance-to-spec : {M : Type 1} → statement M
 advance-to-spec =
