@@ -157,8 +157,9 @@ impl LeaseManager {
         Ok(cards::actions(answer, self.record.population))
     }
 
-    /// Sets the clock, and tells which timers fired, in order: each timer that is due fires once. The host
-    /// adds the [timeout notices](Advanced::timeouts) under the active number, now or later.
+    /// Sets the clock, and tells which timers fired, in order: each timer that is due fires once.
+    /// The host adds the [timeout notices](Advanced::timeouts) under the active number, now or
+    /// later.
     ///
     /// # Errors
     /// 15; then 5, then 6. The present reading is accepted again.

@@ -15,7 +15,7 @@ use Rattle.lease.specs.declared.Grant.the-variants as G
 use Rattle.lease.specs.declared.Peer.{Peer}
 use Rattle.lease.specs.declared.Manager.{Manager}
 use Rattle.lease.specs.Rows.{present, granted}
-use Rattle.lease.specs.Limits.{timeoutValid, populationValid, ownValid, readingValid}
+use Rattle.lease.specs.Limits.{timeoutValid, populationValid, readingValid}
 use Rattle.lease.specs.RecordCheck.{timerValid, sentGuardValid, entryValid, grantValid, timersValid, sidesValid, rowValid, entriesEmpty, rowEmpty, rowValidAt, limitsValid, recordValid}
 use Rattle.lease.proofs.Tests.{both, fst-of, snd-of}
 use Rattle.lease.proofs.RecordCheck.{limits-of, few-of, rows-of, row-of}

@@ -1,6 +1,5 @@
 // Answers as the records that cross to C: 0 or the number of a refusal, at most three lines of plain numbers, and the
-// timers that fired. Every
-// contract says that the result equals a definition of specs/Answers.antt.
+// timers that fired. Every contract says that the result equals a definition of specs/Answers.antt.
 use bitmap::Bitmap;
 use fired_order::no_timers;
 use host_lines::LineC;

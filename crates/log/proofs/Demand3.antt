@@ -36,7 +36,6 @@ use Rattle.lease.specs.declared.SetOutcome.the-variants as SO
 use Rattle.lease.specs.declared.CountOutcome.the-variants as CO
 use Rattle.lease.specs.declared.TimeLeftOutcome.the-variants as TO
 use Rattle.lease.specs.declared.NoticeOutcome.the-variants as NO
-use Rattle.lease.specs.declared.AdvanceOutcome.the-variants as AO
 use Rattle.lease.specs.declared.PlainOutcome.the-variants as PO
 use Rattle.lease.specs.Rows.{rowAt, emptyRow, granted, activeEntry}
 use Rattle.lease.specs.Passes.{isFirst, passOver}
