@@ -247,20 +247,30 @@ impl LeaseManager {
         self.ask(cards::plain(cards::LEASE_CNT)).map(cards::count)
     }
 
-    /// How long the promise held from a peer lasts, in whole ms rounded down; none if there is no
-    /// such promise, 0 if it has run out.
+    /// How long the promise held from a peer lasts, in whole ms rounded up: 0 exactly if it has run
+    /// out, so that a peer has some ms left exactly while it is in the lease set. None if there is
+    /// no such promise.
     ///
     /// # Errors
     /// 15; then 7, then 8.
     ///
     /// ```
-    /// use biasflint::{LeaseManager, Reading, Refusal};
+    /// use biasflint::{LeaseManager, LeaseMsg, LeaseNotice, LeaseNum, Reading, Refusal};
     /// use std::time::Duration;
     ///
     /// let (t, hb) = (Duration::from_secs(1), Duration::from_millis(100));
-    /// let manager = LeaseManager::new_and_setup(0, 3, t, hb, Reading(0))?;
+    /// let mut manager = LeaseManager::new_and_setup(0, 3, t, hb, Reading(0))?;
     /// assert_eq!(manager.time_left(2), Ok(None));
     /// assert_eq!(manager.time_left(300), Err(Refusal::UnknownPeer));
+    ///
+    /// // a promise from peer 2, which lasts until 1 s
+    /// for msg in [LeaseMsg::Guard { accept_bar: None }, LeaseMsg::Promise] {
+    ///     manager.add_notice(LeaseNum(0), LeaseNotice::RecvLeaseMsg { peer: 2, msg })?;
+    /// }
+    /// for (now, ms) in [(999_600_000, 1), (999_999_999, 1), (1_000_000_000, 0)] {
+    ///     manager.advance(Reading(now))?;
+    ///     assert_eq!(manager.time_left(2), Ok(Some(Duration::from_millis(ms))));
+    /// }
     /// # Ok::<(), Refusal>(())
     /// ```
     pub fn time_left(&self, peer: ReplicaId) -> Result<Option<Duration>, Refusal> {

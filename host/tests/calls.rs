@@ -170,10 +170,21 @@ fn time_left_of_a_promise() {
     gives(&mut m, 0, recv(2, GUARD), &[send(2, GuardReply)]);
     assert_eq!(m.time_left(2), Ok(None));
     gives(&mut m, 0, recv(2, Promise), &[send(2, HELD)]);
-    for (now, left) in [(0, 1_000), (1, 999), (999_000_000, 1), (1_000_000_000, 0)] {
-        m.advance(Reading(now)).unwrap();
-        let left = Duration::from_millis(left);
-        assert_eq!(m.time_left(2), Ok(Some(left)), "at {now}");
+    for (ns, left) in [
+        (1_000_000_000, 1_000),
+        (999_999_999, 1_000),
+        (999_000_001, 1_000),
+        (999_000_000, 999),
+        (1_000_001, 2),
+        (1_000_000, 1),
+        (400_000, 1),
+        (1, 1),
+        (0, 0),
+    ] {
+        m.advance(Reading(1_000_000_000 - ns)).unwrap();
+        let ms = Duration::from_millis(left);
+        assert_eq!(m.time_left(2), Ok(Some(ms)), "{ns} ns left");
+        assert_eq!(m.lease_set().unwrap().get(2), Ok(left > 0), "{ns} ns left");
     }
     gives(&mut m, 1, LeaseNotice::ClearHeld, &CLEARED);
     assert_eq!(m.time_left(2), Ok(None));

@@ -1,6 +1,5 @@
 //! What was met on the way: the cases of document 01's rules, told from the record before and after
 //! a call.
-use crate::answer;
 use crate::call::{Call, Ids, LARGEST_READING, MS, Msg, Notice, PeerSet};
 use crate::fired::{self, Timer};
 use crate::state::{ARMED, EXPLODED, deadlines, rows};
@@ -114,8 +113,10 @@ events! {
     LeasesActive "lease_set with active promises",
     LeasesExploded "lease_set leaves out an exploded promise",
     LeftNone "time left: none",
-    LeftMs "time left: some ms",
-    LeftZero "time left: 0",
+    LeftZero "time left: 0, run out",
+    LeftPart "time left: 1, less than 1 ms",
+    LeftWhole "time left: whole ms",
+    LeftUp "time left: above 1 ms, rounded up",
     PastLargest "a deadline past the largest reading",
 }
 
@@ -172,7 +173,7 @@ impl Counts {
             }),
             Call::GrantSet => self.grant_set(b),
             Call::LeaseSet => self.lease_set(b),
-            Call::TimeLeft(_) => self.time_left(answer),
+            Call::TimeLeft(peer) => self.time_left(b, &b.peers[*peer as usize]),
         }
     }
 
@@ -364,12 +365,13 @@ impl Counts {
         self.met_if(Event::LeasesExploded, exploded);
     }
 
-    fn time_left(&mut self, answer: &AnswerC) {
-        let left = answer::lines(answer).0[0];
-        self.met(match (left.peer, left.first) {
+    fn time_left(&mut self, b: &ManagerC, p: &PeerC) {
+        self.met(match (p.promise_held, p.promise_held_at.wrapping_sub(b.now)) {
             (0, _) => Event::LeftNone,
-            (_, 0) => Event::LeftZero,
-            _ => Event::LeftMs,
+            (EXPLODED, _) => Event::LeftZero,
+            (_, ..MS) => Event::LeftPart,
+            (_, left) if left % MS == 0 => Event::LeftWhole,
+            _ => Event::LeftUp,
         });
     }
 }

@@ -31,3 +31,12 @@ peer-below n me id e = go (leb n id) refl e
     go : (x : Bool) → leb n id ≡ x → _≡_ {A = ℕ} (cond x 7 (cond (eqb id me) 8 0)) 0 → id < n
     go true q h = absurd (omega arith)
     go false q h = leb-false n id q
+
+-- and it is not the own id
+pub peer-other : (n me id : ℕ) → peerRefusal n me id ≡ 0 → eqb id me ≡ false
+peer-other n me id e = go (leb n id) (eqb id me) e
+  where
+    go : (x y : Bool) → _≡_ {A = ℕ} (cond x 7 (cond y 8 0)) 0 → y ≡ false
+    go true y h = absurd (omega arith)
+    go false true h = absurd (omega arith)
+    go false false h = refl

@@ -5,6 +5,7 @@ pub mod Judged
 pub mod FiredOrder
 pub mod Due
 pub mod Fired
+pub mod Left
 pub mod Shift
 pub mod Slips
 pub mod Edges

@@ -126,7 +126,7 @@ leaseSet m = passOn m (P.Leased (m .now)) .first
 unfoldable pub leaseCnt : Manager → ℕ
 leaseCnt m = 1 + passOn m (P.Leased (m .now)) .count
 
--- Time left: for a peer, none without a held promise; otherwise deadline minus now in whole milliseconds.
+-- Time left: for a peer, none without a held promise; otherwise deadline minus now in whole milliseconds, rounded up.
 abbrev pub leftOn : Reading → Entry → TimeLeft
 leftOn now Absent = T.None
 leftOn now (Present t) = T.Ms (msLeft now t)

@@ -12,6 +12,7 @@ pub mod SetUp
 pub mod Rules
 pub mod FiredClaims
 pub mod FiredExamples
+pub mod LeftClaims
 pub mod Verdicts
 pub mod Shift
 pub mod Slips

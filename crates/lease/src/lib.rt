@@ -217,7 +217,7 @@ pub enum DriftSetting {
     Drifting(i8),
 }
 
-// Time left of a held promise, in whole ms.
+// Time left of a held promise, in whole ms rounded up.
 pub enum TimeLeft {
     None,
     Ms(u64),

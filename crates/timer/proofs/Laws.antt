@@ -9,7 +9,7 @@ use borrow.Author.Tests.{ltb-true, ltb-false, leb-true, leb-false, lt-ltb, le-lt
 use Rattle.drift.proofs.Laws.{clock-at-most, clock-above-zero}
 use Rattle.timer.specs.declared.Timer.the-variants.{Unarmed, Armed, Exploded}
 use Rattle.timer.specs.Timers.{drifted}
-use Rattle.timer.specs.Claims.{KickedOffActive, KickedOffNear, ExtendedActive, FiredInactive, ExpiredActive, FiredOnce, ExpiredAgain, InactiveNoneLeft, LeftRoundedDown}
+use Rattle.timer.specs.Claims.{KickedOffActive, KickedOffNear, ExtendedActive, FiredInactive, ExpiredActive, FiredOnce, ExpiredAgain, ZeroWhenOver, LeftRoundedUp, LeftExamples}
 
 -- ---- arming
 pub kicked-off-active : KickedOffActive
@@ -68,10 +68,14 @@ expired-again now (Armed deadline) =
 expired-again now Exploded = refl
 
 -- ---- time left
-pub inactive-none-left : InactiveNoneLeft
-inactive-none-left now Unarmed h = refl
-inactive-none-left now (Armed deadline) h = omega (arith, ltb-false (now .0) (deadline .0) h)
-inactive-none-left now Exploded h = refl
+pub zero-when-over : ZeroWhenOver
+zero-when-over now Unarmed = (λ h. refl, λ h. refl)
+zero-when-over now (Armed deadline) =
+    (λ h. omega (arith, ltb-false (now .0) (deadline .0) h), λ h. le-ltb (now .0) (deadline .0) (omega (arith, h)))
+zero-when-over now Exploded = (λ h. refl, λ h. refl)
 
-pub left-rounded-down : LeftRoundedDown
-left-rounded-down now deadline h = (omega arith, omega arith)
+pub left-rounded-up : LeftRoundedUp
+left-rounded-up now deadline = (omega arith, λ ms h. omega (arith, h))
+
+pub left-examples : LeftExamples
+left-examples now = (omega arith, omega arith, omega arith)

@@ -1,7 +1,7 @@
 -- What is claimed of the timers' definitions, for callers. Each claim is proved in proofs/Laws.antt under the same name in small letters. Statements only.
 use mathlib.Core.Path.{_≡_}
 use mathlib.Core.Bool.{true, false}
-use Prim.Native.Nat.{ℕ, _+_, _*_, _≤_, _<_}
+use Prim.Native.Nat.{ℕ, _+_, _-_, _*_, _≤_}
 use lib.Dec.{T}
 use Rattle.drift.specs.declared.Clock.{Clock}
 use Rattle.drift.specs.Clocks.{isSettable}
@@ -45,10 +45,21 @@ ExpiredAgain = (now : Reading) (timer : Timer) → expiredAt now (expiredAt now 
 
 -- ---- time left
 
--- A timer that is not active has no time left.
-abbrev pub InactiveNoneLeft : Type 0
-InactiveNoneLeft = (now : Reading) (timer : Timer) → isActive now timer ≡ false → msLeft now timer ≡ 0
+-- Time left is 0 exactly when the timer is not active.
+abbrev pub ZeroWhenOver : Type 0
+ZeroWhenOver = (now : Reading) (timer : Timer) → (isActive now timer ≡ false → msLeft now timer ≡ 0) × (msLeft now timer ≡ 0 → isActive now timer ≡ false)
 
--- The ms left are those that fit below the deadline, and one more does not.
-abbrev pub LeftRoundedDown : Type 0
-LeftRoundedDown = (now deadline : Reading) → now .0 ≤ deadline .0 → (now .0 + msLeft now (Armed deadline) * 1_000_000 ≤ deadline .0) × (deadline .0 < now .0 + (msLeft now (Armed deadline) + 1) * 1_000_000)
+-- It is the least number of ms that is not less than what is left.
+abbrev pub LeftRoundedUp : Type 0
+LeftRoundedUp =
+    (now deadline : Reading)
+    → (deadline .0 - now .0 ≤ msLeft now (Armed deadline) * 1_000_000)
+    × ((ms : ℕ) → deadline .0 - now .0 ≤ ms * 1_000_000 → msLeft now (Armed deadline) ≤ ms)
+
+-- Time left of a timer that runs out so many ns from now.
+abbrev pub leftOf : Reading → ℕ → ℕ
+leftOf now ns = msLeft now (Armed (record { 0 = now .0 + ns }))
+
+-- Document 02's examples, at every reading.
+abbrev pub LeftExamples : Type 0
+LeftExamples = (now : Reading) → (leftOf now 400_000 ≡ 1) × (leftOf now 1_000_000 ≡ 1) × (leftOf now 1_000_001 ≡ 2)

@@ -55,10 +55,10 @@ isExploded Unarmed = false
 isExploded (Armed deadline) = false
 isExploded Exploded = true
 
--- Time left: deadline minus now in whole milliseconds, rounded down, 0 if run out.
+-- Time left: deadline minus now in whole milliseconds, rounded up (document 02, wish 3), so that it is 0 exactly if run out.
 abbrev pub msLeft : Reading → Timer → ℕ
 msLeft now Unarmed = 0
-msLeft now (Armed deadline) = (deadline .0 - now .0) / 1_000_000
+msLeft now (Armed deadline) = (deadline .0 - now .0 + 999_999) / 1_000_000
 msLeft now Exploded = 0
 
 -- ---- expiry

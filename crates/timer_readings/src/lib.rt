@@ -60,7 +60,8 @@ pub fn expire(now: Reading, timer: Timer) -> Expired
     }
 }
 
-// Deadline minus now in whole milliseconds, rounded down; 0 if the timer has run out or has none.
+// Deadline minus now in whole milliseconds, rounded up: 0 exactly if the timer has run out or has
+// none. A ns is taken off before the division and a ms added after it: a sum before might not fit.
 pub fn left_ms(now: Reading, timer: Timer) -> u64
     ensures { λ r. ⌜ r ≡ msLeft now timer ⌝ }
 {
@@ -68,7 +69,7 @@ pub fn left_ms(now: Reading, timer: Timer) -> u64
         Timer::Unarmed => 0,
         Timer::Armed(deadline) => {
             if now.0 < deadline.0 {
-                (deadline.0 - now.0) / NANOS_PER_MILLI
+                (deadline.0 - now.0 - 1) / NANOS_PER_MILLI + 1
             } else {
                 0
             }

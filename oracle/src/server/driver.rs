@@ -274,11 +274,12 @@ impl Session {
         Some(())
     }
 
-    /// Added by document 01: worked out here from the Rust's deadline, in ms.
+    /// Added by document 01: worked out here from the Rust's deadline, in ms, rounded up as
+    /// document 02 has it.
     fn time_left(&self, peer: u8) -> Option<u128> {
         let timer = self.mgr.promises_held.get(&peer)?;
         Some(match probe::state(timer.value()) {
-            State::Armed(d) => self.reading(d).saturating_sub(u128::from(self.now)) / MS,
+            State::Armed(d) => self.reading(d).saturating_sub(u128::from(self.now)).div_ceil(MS),
             _ => 0,
         })
     }

@@ -13,6 +13,12 @@ enum-known-timer c = search needs
 sub-result : tie.Need-sub-result
 sub-result c = search needs
 
+sub-result-2 : tie.Need-sub-result-2
+sub-result-2 c = search needs
+
+add-result : tie.Need-add-result
+add-result c = search needs
+
 enum-told-2 : tie.Need-enum-told-2
 enum-told-2 c = search needs
 
@@ -20,7 +26,7 @@ returns : tie.Need-returns
 returns c = search needs
 
 returns-2 : tie.Need-returns-2
-returns-2 c = simp (c .before .before .before .before .before .before .timer .given .1)
+returns-2 c = rw (c .before .before .before .before .before .before .timer .given .1) (omega (arith, c .before .before .if1 .taken))
 
 returns-3 : tie.Need-returns-3
 returns-3 c = rw (c .before .before .before .before .timer .given .1) (omega (arith, c .if1 .left))
@@ -35,6 +41,8 @@ left-ms-spec =
     enum-told
     enum-known-timer
     sub-result
+    sub-result-2
+    add-result
     enum-told-2
     returns
     returns-2
