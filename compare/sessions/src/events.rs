@@ -366,7 +366,7 @@ impl Counts {
     }
 
     fn time_left(&mut self, b: &ManagerC, p: &PeerC) {
-        self.met(match (p.promise_held, p.promise_held_at.wrapping_sub(b.now)) {
+        self.met(match (p.promise_held, p.promise_held_at.saturating_sub(b.now)) {
             (0, _) => Event::LeftNone,
             (EXPLODED, _) => Event::LeftZero,
             (_, ..MS) => Event::LeftPart,

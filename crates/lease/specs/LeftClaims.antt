@@ -21,10 +21,11 @@ promiseOf m id = rowAt (m .peers) id .«promise_held»
 abbrev pub NoneLeft : Type 0
 NoneLeft = (m : Manager) (id : ℕ) → (timeLeft m id ≡ T.None → present (promiseOf m id) ≡ false) × (present (promiseOf m id) ≡ false → timeLeft m id ≡ T.None)
 
--- 0 exactly when there is one and it has run out.
+-- There is one, and it has run out: its timer is not active.
 abbrev pub RunOut : Manager → ℕ → Type 0
 RunOut m id = (present (promiseOf m id) ≡ true) × (activeEntry (m .now) (promiseOf m id) ≡ false)
 
+-- 0 exactly then.
 abbrev pub ZeroLeft : Type 0
 ZeroLeft = (m : Manager) (id : ℕ) → (timeLeft m id ≡ T.Ms 0 → RunOut m id) × (RunOut m id → timeLeft m id ≡ T.Ms 0)
 

@@ -49,7 +49,7 @@ ExpiredAgain = (now : Reading) (timer : Timer) → expiredAt now (expiredAt now 
 abbrev pub ZeroWhenOver : Type 0
 ZeroWhenOver = (now : Reading) (timer : Timer) → (isActive now timer ≡ false → msLeft now timer ≡ 0) × (msLeft now timer ≡ 0 → isActive now timer ≡ false)
 
--- It is the least number of ms that is not less than what is left.
+-- Of an armed timer it is the least number of ms that is not less than what is left.
 abbrev pub LeftRoundedUp : Type 0
 LeftRoundedUp =
     (now deadline : Reading)
@@ -57,9 +57,9 @@ LeftRoundedUp =
     × ((ms : ℕ) → deadline .0 - now .0 ≤ ms * 1_000_000 → msLeft now (Armed deadline) ≤ ms)
 
 -- Time left of a timer that runs out so many ns from now.
-abbrev pub leftOf : Reading → ℕ → ℕ
-leftOf now ns = msLeft now (Armed (record { 0 = now .0 + ns }))
+abbrev pub leftWith : Reading → ℕ → ℕ
+leftWith now ns = msLeft now (Armed (record { 0 = now .0 + ns }))
 
 -- Document 02's examples, at every reading.
 abbrev pub LeftExamples : Type 0
-LeftExamples = (now : Reading) → (leftOf now 400_000 ≡ 1) × (leftOf now 1_000_000 ≡ 1) × (leftOf now 1_000_001 ≡ 2)
+LeftExamples = (now : Reading) → (leftWith now 400_000 ≡ 1) × (leftWith now 1_000_000 ≡ 1) × (leftWith now 1_000_001 ≡ 2)
