@@ -9,7 +9,7 @@ use native.Mathlib.Omega.{arith}
 use lib.Dec.{T, ltb, eqb}
 use lib.ListN.{length, set, length-set}
 use lib.Seq.{getD-set-same, getD-set-other}
-use borrow.Author.Tests.{eq-eqb, ne-eqb, lt-leb, lt-ltb, le-ltb}
+use borrow.Author.Tests.{eqb-false, ne-eqb, lt-ltb, le-ltb}
 use Rattle.bitmap.specs.declared.Bitmap.{Bitmap}
 use Rattle.bitmap.specs.Sets.{one}
 use Rattle.drift.specs.declared.Clock.{Clock}
@@ -45,7 +45,7 @@ use Rattle.lease.specs.Rows.{rowAt, emptyRow}
 use Rattle.lease.specs.Passes.{named, passRow, rowAfter, passOver}
 use Rattle.lease.specs.Notices.{outdated, termOf, withPeers, passOn, handledAt, onPeer, handleNewGrants, handleDoRevoke, handleClearHeld, raisedTo, handleNotice, acceptedOf}
 use Rattle.lease.specs.Calls.{quietAt, advanceTo, assumeUnknownGrants, refreshPass, attemptRefresh, clockOf, setDrift}
-use Rattle.lease.proofs.Judged.{peer-below}
+use Rattle.lease.proofs.Judged.{peer-below, peer-other}
 use Rattle.lease.specs.Refusals.{peerRefusal, noticeRefusal}
 use Rattle.lease.specs.Verdicts.{drift, linesOf}
 use Rattle.log.specs.Demand3.{Typed}
@@ -244,9 +244,7 @@ module _ (m : Manager) (j : Journal) (i : Inv m j) where
   -- ---- about one peer
 
   pub peer-of : (q : ℕ) → peerRefusal (m .population) (m .me) q ≡ 0 → (q < m .population) × (q ≢ m .me)
-  peer-of q a =
-      let below = peer-below (m .population) (m .me) q a in
-      (below, λ own. absurd (let z : _≡_ {A = ℕ} 8 0 = rw (lt-leb (m .population) q below, eq-eqb q (m .me) own) at a in omega arith))
+  peer-of q a = (peer-below (m .population) (m .me) q a, eqb-false q (m .me) (peer-other (m .population) (m .me) q a))
 
   -- an id that is no peer is not q
   no-peer-other : (p q : ℕ) → q < m .population → q ≢ m .me → isPeer (m .population) (m .me) p ≡ false → p ≢ q
