@@ -120,7 +120,7 @@ pub struct LineC {
     pub number: u64,
     /// A peer's id, a set's size, or whether there is an accept bar or a time left.
     pub peer: u64,
-    /// A set's bits, an accept bar, `held`, a count, or a time left in ms.
+    /// A set's bits, an accept bar, `held`, a count, or a time left in ms, rounded up.
     pub first: u64,
     /// The accept bar of a Guard broadcast, or the bits of advance's second set.
     pub second: u64,
