@@ -1,4 +1,6 @@
 // The library for a host in Rust or C: one call on a record that the host owns and lends.
+#![tactic(auto)]
+
 ghost use Rattle.std.specs.Prelude.{◌≡◌};
 ghost use Rattle.host_rules.specs.Calls.{outer_c, record_c, call_of};
 

@@ -1,15 +1,18 @@
 // Sets of ids below a size, of at most 64 ids: the types of module 1, and the leaf functions by which every set is made and read.
 // The calls of module 1 stand in bitmap_calls, those over a slice of ids in bitmap_lists; what they answer is in specs/Operations.
+#![tactic(auto)]
+
 ghost use Rattle.std.specs.Prelude.{◌≡◌, ◌+◌, ◌^◌, ◌<◌};
 ghost use Rattle.bitmap.specs.Sets.{member, one, weight};
 ghost use Rattle.bitmap.specs.Bitmaps.{capacity, number, bitmap_of, is_one};
 ghost use Rattle.bitmap.specs.Operations.{bad_size};
 
+
 // How many ids a bitmap has room for.
 pub const CAPACITY: u8 = 64;
 
 // A set of ids: id i is a one where the number `bits` has 2 to the i.
-#[derive(Drop)]
+#[derive(Clone, Copy)]
 pub struct Bitmap {
     pub size: u8,
     pub bits: u64,
@@ -25,21 +28,21 @@ pub const SIZES_DIFFER: u8 = 11;
 pub const SHORT_SLICE: u8 = 13;
 
 // A set, or the number of the refusal.
-#[derive(Drop)]
+#[derive(Clone, Copy)]
 pub enum BitmapAnswer {
     Refused(u8),
     Set(Bitmap),
 }
 
 // A flag, or the number of the refusal.
-#[derive(Drop)]
+#[derive(Clone, Copy)]
 pub enum FlagAnswer {
     Refused(u8),
     Flag(bool),
 }
 
 // A count of ids, or the number of the refusal.
-#[derive(Drop)]
+#[derive(Clone, Copy)]
 pub enum CountAnswer {
     Refused(u8),
     Count(u8),

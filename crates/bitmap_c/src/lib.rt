@@ -1,5 +1,7 @@
 // Module 1's calls for programs in C or Rust: the runs beside the Rust link it and compare each answer. A function that is
 // exported takes and answers no enum, so a set is its size and its number, and an answer is a record of numbers.
+#![tactic(auto)]
+
 ghost use Rattle.std.specs.Prelude.{◌≡◌};
 ghost use Rattle.bitmap.specs.Bitmaps.{bitmap_of};
 ghost use Rattle.bitmap.specs.Operations.{new_of, set_of, get_of, size_of, count_of, flip_of, union_of, is_superset_of, clear_of, from_range_of, from_ids_of, ones_of, bytes_after_ones};
@@ -9,7 +11,7 @@ use bitmap::{Bitmap, BitmapAnswer, CountAnswer, FlagAnswer};
 
 // A set, or the number of the refusal.
 #[repr(C)]
-#[derive(Drop)]
+#[derive(Clone, Copy)]
 pub struct SetC {
     pub refused: u8,
     pub size: u8,
@@ -18,7 +20,7 @@ pub struct SetC {
 
 // A count, or a flag as 1 or 0; or the number of the refusal.
 #[repr(C)]
-#[derive(Drop)]
+#[derive(Clone, Copy)]
 pub struct ValueC {
     pub refused: u8,
     pub value: u8,

@@ -1,5 +1,7 @@
 // The calls of module 1 on one set and an id of it; bitmap_sets has those about sets as a whole, bitmap_lists
 // those over a slice of ids. On any set and any argument each answers as bitmap's specs/Operations says.
+#![tactic(auto)]
+
 ghost use Rattle.std.specs.Prelude.{◌≡◌};
 ghost use Rattle.bitmap.specs.Operations.{new_of, set_of, get_of, size_of, count_of};
 

@@ -4,6 +4,8 @@
 //     f SET  flip              u SET SET  union          p SET SET  is_superset               c SET  clear
 //     r SIZE START END  from_range                       l SIZE ID ID ID  from_ids
 //     o SET  ones into four lent bytes of 255            i SET  the same, one byte of the four lent
+#![tactic(auto)]
+
 use bitmap::{Bitmap, BitmapAnswer, CountAnswer, FlagAnswer};
 use example_answers::{count, flag, mix, refused, set};
 use example_script::{Counts, copy_saying, judge, letter, word, write_counts};

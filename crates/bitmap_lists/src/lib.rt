@@ -1,4 +1,6 @@
 // The calls of module 1 over a slice of ids: a set from a list of ids, and the ids of a set written into lent bytes.
+#![tactic(auto)]
+
 ghost use Rattle.std.specs.Prelude.{◌≡◌, true, cond, ◌+◌, ◌<◌, ◌≤◌, length, set};
 ghost use Rattle.bitmap.specs.Sets.{one, count_where};
 ghost use Rattle.bitmap.specs.Bitmaps.{capacity, bitmap_where, is_one};

@@ -1,4 +1,6 @@
 // The one pass over the ids below a size, for any rule: which ids it takes, as a set, and how many they are.
+#![tactic(auto)]
+
 ghost use Rattle.std.specs.Prelude.{◌≡◌, ◌^◌, ◌<◌, ◌≤◌};
 ghost use Rattle.bitmap.specs.Sets.{count_where};
 ghost use Rattle.bitmap.specs.Bitmaps.{capacity, number, is_one};
@@ -8,7 +10,7 @@ ghost use Rattle.bitmap_pass.specs.Rules.{taken_by, chosen_where, chosen_with};
 use bitmap::{BAD_SIZE, Bitmap, BitmapAnswer, bad_size, is_one, none, one_if, with_id};
 
 // Which ids a pass over the ids takes.
-#[derive(Drop)]
+#[derive(Clone, Copy)]
 pub enum Rule {
     // All of them, or none.
     Every(bool),
@@ -42,7 +44,7 @@ fn takes(rule: Rule, i: usize) -> bool
 }
 
 // The ids that a pass takes: as a set, and how many.
-#[derive(Drop)]
+#[derive(Clone, Copy)]
 pub struct Chosen {
     pub set: Bitmap,
     pub count: u64,

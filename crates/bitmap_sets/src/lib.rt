@@ -1,5 +1,7 @@
 // The calls of module 1 about sets as a whole: flip, union, superset, clear, and the set of a range of ids. On
 // any set and any argument each answers as bitmap's specs/Operations says.
+#![tactic(auto)]
+
 ghost use Rattle.std.specs.Prelude.{◌≡◌};
 ghost use Rattle.bitmap.specs.Operations.{flip_of, union_of, is_superset_of, clear_of, from_range_of};
 

@@ -1,5 +1,7 @@
 // The outer calls on a record that is not refused, by value. Every contract says that the result equals
 // a definition of lease/specs/Calls.
+#![tactic(auto)]
+
 ghost use Rattle.std.specs.Prelude.{◌≡◌};
 ghost use Rattle.lease.specs.Calls.{with_time, assume_unknown_grants, advance_to, attempt_refresh, clock_of, set_drift};
 ghost use Rattle.passes.specs.Fits.{ManagerFits};

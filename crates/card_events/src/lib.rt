@@ -1,6 +1,8 @@
 // What a card of six numbers says, and the card of an event (document 02, wish 1), in the types of the lease
 // manager. Definitions in specs/Events, what is claimed of them in specs/Claims. The six numbers are the host
 // library's CallC; a card of wish 1 is stricter than a call of the host's: fields that a code does not name are 0.
+#![tactic(auto)]
+
 ghost use Rattle.std.specs.Prelude.{◌≡◌};
 ghost use Rattle.card_events.specs.Events.{card, is_zero, is_set, is_msg_card, is_new_grants, is_do_revoke, is_notice_card, is_card, event_of, set_size, set_bits, bar_flag, bar_of, msg_kind, msg_first, notice_card, card_of, carried_set, carried_notice, carried_event, is_carried};
 
@@ -10,7 +12,7 @@ use lease::{AcceptBar, LeaseMsg, LeaseNotice, LeaseNum, Lines, PeerSet, QuietEnd
 use timer::Reading;
 
 // What set-up is handed: `new_and_setup`'s arguments.
-#[derive(Drop)]
+#[derive(Clone, Copy)]
 pub struct SetUpCall {
     pub me: ReplicaId,
     pub population: usize,
@@ -20,7 +22,7 @@ pub struct SetUpCall {
 }
 
 // What a card says.
-#[derive(Drop)]
+#[derive(Clone, Copy)]
 pub enum Event {
     SetUp(SetUpCall),
     Advance(Reading),
@@ -28,14 +30,14 @@ pub enum Event {
 }
 
 // A line read as an event, or the number of its refusal.
-#[derive(Drop)]
+#[derive(Clone, Copy)]
 pub enum EventRead {
     Refused(u8),
     Event(Event),
 }
 
 // What a card gives.
-#[derive(Drop)]
+#[derive(Clone, Copy)]
 pub enum CardOutcome {
     Refused(u8),
     // An accepted set-up.

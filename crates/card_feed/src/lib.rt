@@ -1,5 +1,7 @@
 // The bytes of event cards to the bytes of output lines, a chunk at a time: where a chunk ends changes nothing.
 // Definitions in specs/Feed, what is claimed of them in specs/Claims.
+#![tactic(auto)]
+
 ghost use Rattle.std.specs.Prelude.{◌+◌, ◌*◌, ◌-◌, ◌<◌, ◌≤◌, ◌≡◌, cond, length, drop};
 ghost use Rattle.std.proofs.lemmas.List.Edits.{sets};
 ghost use Rattle.card_lines.specs.Lines.{room_of};
@@ -19,14 +21,14 @@ const MOST_INPUT: usize = 4096;
 const ROOM: usize = 512_910;
 
 // What is kept between two chunks.
-#[derive(Drop)]
+#[derive(Clone, Copy)]
 pub struct Replay {
     pub partial: Partial,
     pub session: Session,
 }
 
 // Whether the chunk was taken, how many bytes were written, and what is kept.
-#[derive(Drop)]
+#[derive(Clone, Copy)]
 pub struct Fed {
     pub taken: bool,
     pub written: usize,
@@ -34,14 +36,14 @@ pub struct Fed {
 }
 
 // What an ended line leaves, and where its output ends.
-#[derive(Drop)]
+#[derive(Clone, Copy)]
 struct Ended {
     replay: Replay,
     at: usize,
 }
 
 // What the bytes of one line leave, where the next begin, and where the output ends.
-#[derive(Drop)]
+#[derive(Clone, Copy)]
 struct Turn {
     replay: Replay,
     next: usize,

@@ -1,5 +1,7 @@
 // Output lines (document 02, wish 1): 69 columns and a newline. Writing the lines of what a card gives, and
 // reading one line back. Definitions in specs/Lines, what is claimed of them in specs/Claims.
+#![tactic(auto)]
+
 ghost use Rattle.std.specs.Prelude.{◌+◌, ◌≤◌, ◌≡◌, cond, length};
 ghost use Rattle.std.proofs.lemmas.List.Edits.{sets};
 ghost use Rattle.lease.specs.Fired.{listed_in};
@@ -16,7 +18,7 @@ const COLUMNS: usize = 69;
 const LINE: usize = 70;
 
 // A line read as five numbers, if it is of the form.
-#[derive(Drop)]
+#[derive(Clone, Copy)]
 pub enum LineRead {
     NotOfForm,
     Numbers(LineC),

@@ -1,5 +1,7 @@
 // The line so far: its bytes are kept one by one, up to 73 of them, and read as a card where it ends. Definitions in
 // specs/Partials.
+#![tactic(auto)]
+
 ghost use Rattle.std.specs.Prelude.{◌+◌, ◌≤◌, ◌≡◌, length, drop};
 ghost use Rattle.card_partials.specs.Partials.{kept_by, partial_read, fill_next, line_end};
 
@@ -11,14 +13,14 @@ const COLUMNS: usize = 73;
 
 // The line so far: how many of its bytes there are, 74 for any number above 73, and its first 73 bytes. Bytes from
 // `filled` on are of no meaning.
-#[derive(Drop)]
+#[derive(Clone, Copy)]
 pub struct Partial {
     pub filled: usize,
     pub columns: [u8; 73],
 }
 
 // The line with the bytes up to a newline or the end, and where that is.
-#[derive(Drop)]
+#[derive(Clone, Copy)]
 pub struct Filled {
     pub partial: Partial,
     pub at: usize,

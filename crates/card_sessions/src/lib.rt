@@ -1,5 +1,7 @@
 // What a card does: the state that is carried from card to card, the refusals 21 to 23 in front of document 01's,
 // and the calls of the lease manager. Definitions in specs/Sessions, what is claimed of them in specs/Claims.
+#![tactic(auto)]
+
 ghost use Rattle.std.specs.Prelude.{◌≡◌};
 ghost use Rattle.card_sessions.specs.Sessions.{blank_session, next_card, counted, with_manager, given_by, refused_card, is_turn, set_up_given, advance_given, notice_given, event_given, card_given};
 
@@ -14,7 +16,7 @@ use setup::new_and_setup;
 use timer::Reading;
 
 // Between two cards: whether a set-up was accepted, how many cards were read, and the manager's record.
-#[derive(Drop)]
+#[derive(Clone, Copy)]
 pub struct Session {
     pub is_set_up: bool,
     pub cards: u64,
@@ -22,7 +24,7 @@ pub struct Session {
 }
 
 // What a card gives, the timers that fired (none but by an accepted advance), and the session after it.
-#[derive(Drop)]
+#[derive(Clone, Copy)]
 pub struct CardAnswer {
     pub outcome: CardOutcome,
     pub fired: FiredTimers,

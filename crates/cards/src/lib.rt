@@ -1,5 +1,7 @@
 // Event cards (document 02, wish 1): a line of 73 columns, the six numbers in it, and the event that they say.
 // Both ways: read_event and write_card. Definitions in specs/Cards, what is claimed of them in specs/Claims.
+#![tactic(auto)]
+
 ghost use Rattle.std.specs.Prelude.{◌≤◌, ◌≡◌, cond, length};
 ghost use Rattle.std.proofs.lemmas.List.Edits.{sets};
 ghost use Rattle.card_events.specs.Events.{card_of};
@@ -15,7 +17,7 @@ const COLUMNS: usize = 73;
 const CARD: usize = 74;
 
 // A line read as six numbers, if it is of the form.
-#[derive(Drop)]
+#[derive(Clone, Copy)]
 pub enum CardRead {
     NotOfForm,
     Numbers(CallC),

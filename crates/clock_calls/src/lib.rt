@@ -1,5 +1,7 @@
 // The calls about time, by value: advance and the drift setting. The record is looked at first, then the
 // call's own refusals; a refusal answers its number and the record as it came. None has a `requires`.
+#![tactic(auto)]
+
 ghost use Rattle.std.specs.Prelude.{◌≡◌};
 ghost use Rattle.lease.specs.Rules.{advance_refused, advance_of, drift_of};
 

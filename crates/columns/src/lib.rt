@@ -1,5 +1,7 @@
 // Decimal numbers in fixed columns of bytes: right-justified, no leading zeros. Definitions in specs/Columns,
 // what is claimed of them in specs/Claims.
+#![tactic(auto)]
+
 ghost use Rattle.std.specs.Prelude.{◌+◌, ◌≤◌, ◌≡◌, length};
 ghost use Rattle.std.proofs.lemmas.List.Edits.{sets};
 ghost use Rattle.std.proofs.Math.Seq.{slice};
@@ -10,7 +12,7 @@ ghost use Rattle.columns.specs.Columns.{is_number as Columns·is_number};
 const MOST_TENS: u64 = 1_844_674_407_370_955_161;
 
 // What the bytes of a field are, read from the left.
-#[derive(Drop)]
+#[derive(Clone, Copy)]
 pub enum Field {
     // No byte but blanks.
     Blank,

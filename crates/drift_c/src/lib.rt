@@ -1,5 +1,7 @@
 // The crate drift for programs in C or Rust: compare/drift links it and compares each value with the
 // Rust's. A function that is exported can take no enum, so there is one for each case of the clock.
+#![tactic(auto)]
+
 ghost use Rattle.std.specs.Prelude.{◌≡◌};
 ghost use Rattle.drift.specs.Drift.{rate_of, quotient_of, is_quotient, ns_of};
 ghost use Rattle.drift.specs.Clocks.{drifted_on};
@@ -10,7 +12,7 @@ use drift::{Clock, Drifted};
 
 // `Drifted` with the fields of its working record beside the answer.
 #[repr(C)]
-#[derive(Drop)]
+#[derive(Clone, Copy)]
 pub struct DriftedC {
     pub ns: u64,
     pub seconds: f64,

@@ -1,6 +1,8 @@
 // clock_drifted of the Rust's src/utils/faults.rs: what a duration in ns becomes under the clock's drift,
 // and which quotients a drift setting gives. No requires: every quotient, a NaN too, has its answer. Every
 // contract says that the result equals a definition of drift's specs/Drift.antt or specs/Clocks.antt.
+#![tactic(auto)]
+
 ghost use Rattle.std.specs.Prelude.{◌≡◌};
 ghost use Rattle.drift.specs.Drift.{is_quotient};
 ghost use Rattle.drift.specs.Clocks.{drifted_on};

@@ -1,5 +1,7 @@
 // The float arithmetic of clock drift: the rate and the quotient of a setting, seconds and back to ns.
 // Every contract says that the result equals a definition of drift's specs/Drift.antt.
+#![tactic(auto)]
+
 ghost use Rattle.std.specs.Prelude.{◌≡◌, ◌*◌, ◌^◌, ◌≤◌, ◌<◌};
 ghost use Rattle.std.specs.Float.Ieee.Nearest.{closest};
 ghost use Rattle.drift.specs.Drift.{nanos_per_sec, rate_of, quotient_at, quotient_of, seconds_of, ns_of};

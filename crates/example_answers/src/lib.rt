@@ -9,6 +9,8 @@
 //     l ID               LeaseTimeout    h                     HigherNumber      a ID BAR  GuardAcceptBar
 // and the messages as example_script/src/notices.rt has them
 //     an entry's timer:  `-` none,       u unarmed,            e exploded,       d NS      armed
+#![tactic(auto)]
+
 use bitmap::Bitmap;
 use lease::{AcceptBar, LeaseAction, LeaseMsg, Line, Lines, SetOutcome};
 use std::num::wrapping_add_u64;

@@ -3,6 +3,8 @@
 //     s OWN POPULATION T HEARTBEAT START  new_and_setup, times in ns
 //     n NUMBER NOTICE  add_notice         a NS  advance            q  assume_unknown_grants
 //     r SET  attempt_refresh              d PERCENT  set_drift
+#![tactic(auto)]
+
 use example_answers::{done, fired_alone, fired_with_line, lines, refused, set_of};
 use example_script::{letter, notice, peer_set, word};
 use lease::{
@@ -11,7 +13,7 @@ use lease::{
 };
 use timer::Reading;
 
-#[derive(Drop)]
+#[derive(Clone, Copy)]
 pub struct Done {
     pub manager: Manager,
     pub answer: u64,

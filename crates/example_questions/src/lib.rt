@@ -4,6 +4,8 @@
 //     p ID  the timer of a sent promise, revoking or not      u ID  the timer of a sent guard
 //     h ID  the timer of a held promise     m ID  the refresh mark, 0 or 1
 //     v  the active number
+#![tactic(auto)]
+
 use example_answers::{count, flag, left, mix, no_timer, none_left, refused, set_of, timer};
 use example_script::word;
 use lease::{CountOutcome, Entry, Grant, Manager, Peer, TimeLeft, TimeLeftOutcome};

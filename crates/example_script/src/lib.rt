@@ -3,6 +3,8 @@
 // The call and the answer are words between blanks: a word is a number, or one letter or sign, which
 // counts as its byte. A notice's letters stand in notices.rt, those of the calls in example_calls, those
 // of the answers in example_answers.
+#![tactic(auto)]
+
 mod notices;
 
 use example_answers::mix;
@@ -13,14 +15,14 @@ use std::num::wrapping_add_u64;
 const TURNS: u64 = 1000;
 
 // How many lines are run, and how many of them are ok.
-#[derive(Drop)]
+#[derive(Clone, Copy)]
 pub struct Counts {
     pub right: u64,
     pub count: u64,
 }
 
 // A word or an answer so far, as a number, and what ended it, or 0.
-#[derive(Drop)]
+#[derive(Clone, Copy)]
 struct Part {
     value: u64,
     end: u8,

@@ -1,4 +1,6 @@
 // Any notice about one peer on that peer's row: which handler it goes to, and the timer for it.
+#![tactic(auto)]
+
 ghost use Rattle.std.specs.Prelude.{◌≡◌};
 ghost use Rattle.lease.specs.Handlers.{for_t, for_2t, handle_msg, handle_peer_notice};
 ghost use Rattle.handlers.specs.Fits.{TermFits};

@@ -1,4 +1,6 @@
 // How a promise that this controller holds ends, on its peer's row: Revoke and LeaseTimeout.
+#![tactic(auto)]
+
 ghost use Rattle.std.specs.Prelude.{◌≡◌};
 ghost use Rattle.lease.specs.Handlers.{handle_msg_revoke, handle_lease_timeout};
 

@@ -1,4 +1,6 @@
 // Guard, on its peer's row: a guard that this controller holds. `t` is a timer that has just been kicked off.
+#![tactic(auto)]
+
 ghost use Rattle.std.specs.Prelude.{◌≡◌};
 ghost use Rattle.lease.specs.Handlers.{handle_msg_guard};
 

@@ -1,5 +1,7 @@
 // Promise, on its peer's row: a promise that this controller holds. `t` is a timer that has just been kicked
 // off.
+#![tactic(auto)]
+
 ghost use Rattle.std.specs.Prelude.{◌≡◌};
 ghost use Rattle.lease.specs.Handlers.{handle_msg_promise};
 

@@ -1,5 +1,7 @@
 // Answers as the records that cross to C: 0 or the number of a refusal, at most three lines of plain numbers, and the
 // timers that fired. Every contract says that the result equals a definition of specs/Answers.antt.
+#![tactic(auto)]
+
 ghost use Rattle.std.specs.Prelude.{◌≡◌};
 ghost use Rattle.host_answers.specs.Answers.{accepted, refused_answer, no_lines, one_line, two_lines, lines_answer, notice_answer, fired_answer, advance_lines, advance_answer, plain_answer, setup_answer, set_answer, count_answer, time_left_answer};
 
@@ -14,7 +16,7 @@ use lease::{
 // Refused is 0, or the number of the refusal; count is how many lines there are, the others are zeros. Any call but
 // advance lists no timer.
 #[repr(C)]
-#[derive(Drop)]
+#[derive(Clone, Copy)]
 pub struct AnswerC {
     pub refused: u64,
     pub count: u64,

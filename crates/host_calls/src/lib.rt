@@ -1,5 +1,7 @@
 // Calls from the host that may change the record: set-up, a notice and advance. Every contract says that the result
 // equals a definition of host_rules/specs/Calls.
+#![tactic(auto)]
+
 ghost use Rattle.std.specs.Prelude.{◌≡◌};
 ghost use Rattle.host_rules.specs.Calls.{left, setup_c, notice_c, advance_c};
 

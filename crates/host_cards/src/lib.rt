@@ -1,5 +1,7 @@
 // Calls as the record that crosses from C, a card of six plain numbers, and what it says: in the types of
 // the lease manager. Every contract says that the result equals a definition of specs/Cards.antt.
+#![tactic(auto)]
+
 ghost use Rattle.std.specs.Prelude.{◌≡◌, min, eqb};
 ghost use Rattle.lease.specs.Limits.{within};
 ghost use Rattle.host_record.specs.Managers.{is_flag};
@@ -10,7 +12,7 @@ use lease::{AcceptBar, Bar, DriftSetting, LeaseMsg, LeaseNotice, PeerSet};
 
 // A call. What the other fields are goes by the code; those that a code does not name are not looked at.
 #[repr(C)]
-#[derive(Drop)]
+#[derive(Clone, Copy)]
 pub struct CallC {
     pub code: u64,
     pub number: u64,

@@ -1,5 +1,7 @@
 // A manager's record as the flat record that crosses to the host. Every contract says that the result
 // equals a definition of host_record/specs/Flat.
+#![tactic(auto)]
+
 ghost use Rattle.std.specs.Prelude.{◌≡◌, map};
 ghost use Rattle.host_record.specs.Flat.{timer_tag, timer_at, entry_tag, entry_at, grant_tag, grant_at, grant_revoking, flag, flat_row, clock_drifting, clock_quotient, quiet_flag, quiet_at, flat_of};
 

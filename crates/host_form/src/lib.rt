@@ -1,5 +1,7 @@
 // Whether a flat record is some manager's: its tags and flags are ones, and what they leave out is 0. Every
 // contract says that the result equals a definition of host_record/specs/Managers.
+#![tactic(auto)]
+
 ghost use Rattle.std.specs.Prelude.{◌≡◌};
 ghost use Rattle.host_record.specs.Managers.{is_entry, is_flag, is_revoking, is_grant, is_row, all_of, is_clock, is_quiet, is_record};
 

@@ -1,5 +1,7 @@
 // The lines of answers as they cross to C: plain numbers. Every contract says that the result equals a definition of
 // specs/Lines.antt.
+#![tactic(auto)]
+
 ghost use Rattle.std.specs.Prelude.{◌≡◌};
 ghost use Rattle.host_record.specs.Flat.{flag};
 ghost use Rattle.host_lines.specs.Lines.{line_c, no_line, send_line, guard_line, bcast_line, action_line, line_of, fired_line, set_line, time_left_line};
@@ -9,7 +11,7 @@ use lease::{AcceptBar, LeaseAction, LeaseMsg, Line, Lines, ReplicaId, TimeLeft};
 
 // One line. What first and second are, and whether peer is an id, a size or a flag, goes by the code.
 #[repr(C)]
-#[derive(Drop)]
+#[derive(Clone, Copy)]
 pub struct LineC {
     pub code: u64,
     pub number: u64,

@@ -1,5 +1,7 @@
 // A flat record read as a manager's, and whether it is some manager's. Every contract says that the result
 // equals a definition of host_record/specs/Managers.
+#![tactic(auto)]
+
 ghost use Rattle.std.specs.Prelude.{◌≡◌, map};
 ghost use Rattle.host_record.specs.Managers.{timer_of, entry_of, grant_of, row_of, clock_of, quiet_timer_of, manager_of};
 

@@ -1,5 +1,7 @@
 // Calls from the host: quiet start, refresh and the drift setting. Every contract says that the result equals a
 // definition of host_rules/specs/Calls.
+#![tactic(auto)]
+
 ghost use Rattle.std.specs.Prelude.{◌≡◌};
 ghost use Rattle.host_rules.specs.Calls.{quiet_c, refresh_c, drift_c};
 

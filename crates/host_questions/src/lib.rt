@@ -1,5 +1,7 @@
 // The questions from the host; the record stays as it was lent. Every contract says that the result equals a
 // definition of host_rules/specs/Calls.
+#![tactic(auto)]
+
 ghost use Rattle.std.specs.Prelude.{◌≡◌};
 ghost use Rattle.host_rules.specs.Calls.{kept, grant_set_c, lease_set_c, lease_cnt_c, time_left_c, question_c};
 

@@ -1,10 +1,11 @@
 // The manager's record as it crosses to the host: plain numbers only, since a struct that holds an enum cannot be
 // exported, and so that every bit pattern that a host can lend is a value. What the numbers stand for is in
 // specs/Flat, what is no manager's record in specs/Managers. No code.
+#![tactic(auto)]
 
 // One id's row. A tag is 0 absent, 1 unarmed, 2 armed, 3 exploded; a deadline is 0 where nothing is armed.
 #[repr(C)]
-#[derive(Drop)]
+#[derive(Clone, Copy)]
 pub struct PeerC {
     pub guard_sent: u8,
     pub promise_sent: u8,
@@ -20,7 +21,7 @@ pub struct PeerC {
 
 // The record. `quotient` is 1.0 where the clock is true, `quiet_until` 0 outside quiet time.
 #[repr(C)]
-#[derive(Drop)]
+#[derive(Clone, Copy)]
 pub struct ManagerC {
     pub me: usize,
     pub population: usize,

@@ -1,5 +1,7 @@
 // The types of the lease manager, with the names of the Rust's src/server/leaseman.rs. The rules on
 // them, document 01 as definitions, stand in specs/. No code.
+#![tactic(auto)]
+
 use bitmap::Bitmap;
 use drift::Clock;
 use timer::{Reading, Timer};
@@ -10,22 +12,22 @@ pub type ReplicaId = usize;
 
 // Lease number, never decreasing. A tuple struct of its own, as `Bar` and `Reading`, so that one is
 // never taken for another.
-#[derive(Drop)]
+#[derive(Clone, Copy)]
 pub struct LeaseNum(pub u64);
 
 // Accept bar: a threshold that a Guard may carry for the protocol above.
-#[derive(Drop)]
+#[derive(Clone, Copy)]
 pub struct Bar(pub u64);
 
 // The Rust's `accept_bar: Option<usize>`.
-#[derive(Drop)]
+#[derive(Clone, Copy)]
 pub enum AcceptBar {
     None,
     Some(Bar),
 }
 
 // The Rust's `peers: Option<Bitmap>`: no set means all.
-#[derive(Drop)]
+#[derive(Clone, Copy)]
 pub enum PeerSet {
     All,
     Of(Bitmap),
@@ -34,21 +36,21 @@ pub enum PeerSet {
 // ---- the record
 
 // An id's entry of `guards_sent`, `guards_held` or `promises_held`.
-#[derive(Drop)]
+#[derive(Clone, Copy)]
 pub enum Entry {
     Absent,
     Present(Timer),
 }
 
 // An id's entry of `promises_sent`: its timer, and whether it is being revoked.
-#[derive(Drop)]
+#[derive(Clone, Copy)]
 pub enum Grant {
     Absent,
     Present(Timer, bool),
 }
 
 // One id's row: its entry of each of the four tables, and its refresh mark.
-#[derive(Drop)]
+#[derive(Clone, Copy)]
 pub struct Peer {
     pub guard_sent: Entry,
     pub promise_sent: Grant,
@@ -59,14 +61,14 @@ pub struct Peer {
 
 // The Rust's `quiet_timer: Option<Timer>`: none, or the reading at which quiet time (document 01's
 // term) ends.
-#[derive(Drop)]
+#[derive(Clone, Copy)]
 pub enum QuietTimer {
     None,
     Until(Reading),
 }
 
 // The manager's record. `expire_timeout` is document 01's T, in ns.
-#[derive(Drop)]
+#[derive(Clone, Copy)]
 pub struct Manager {
     pub me: ReplicaId,
     pub population: usize,
@@ -80,7 +82,7 @@ pub struct Manager {
 
 // ---- messages, notices, actions
 
-#[derive(Drop)]
+#[derive(Clone, Copy)]
 pub enum LeaseMsg {
     Guard(AcceptBar),
     GuardReply,
@@ -92,7 +94,7 @@ pub enum LeaseMsg {
     RevokeReply(bool),
 }
 
-#[derive(Drop)]
+#[derive(Clone, Copy)]
 pub enum LeaseNotice {
     NewGrants(PeerSet, AcceptBar),
     DoRevoke(PeerSet),
@@ -103,14 +105,14 @@ pub enum LeaseNotice {
 }
 
 // What a notice about one peer says of that peer.
-#[derive(Drop)]
+#[derive(Clone, Copy)]
 pub enum PeerNotice {
     RecvLeaseMsg(LeaseMsg),
     GrantTimeout,
     LeaseTimeout,
 }
 
-#[derive(Drop)]
+#[derive(Clone, Copy)]
 pub enum LeaseAction {
     SendLeaseMsg(ReplicaId, LeaseMsg),
     BcastLeaseMsgs(Bitmap, LeaseMsg),
@@ -125,7 +127,7 @@ pub enum LeaseAction {
 }
 
 // The actions of a handler, in order, before they are numbered.
-#[derive(Drop)]
+#[derive(Clone, Copy)]
 pub enum Actions {
     None,
     One(LeaseAction),
@@ -133,11 +135,11 @@ pub enum Actions {
 }
 
 // The Rust's (LeaseNum, LeaseAction); "line" is document 01's term for it.
-#[derive(Drop)]
+#[derive(Clone, Copy)]
 pub struct Line(pub LeaseNum, pub LeaseAction);
 
 // The numbered actions of one notice, in order: at most three.
-#[derive(Drop)]
+#[derive(Clone, Copy)]
 pub enum Lines {
     None,
     One(Line),
@@ -148,7 +150,7 @@ pub enum Lines {
 // ---- what the handlers and the passes give
 
 // What the deadlines of a handler are worked out from.
-#[derive(Drop)]
+#[derive(Clone, Copy)]
 pub struct Term {
     pub clock: Clock,
     pub now: Reading,
@@ -156,14 +158,14 @@ pub struct Term {
 }
 
 // A notice about one peer: the peer's row after it, and its actions.
-#[derive(Drop)]
+#[derive(Clone, Copy)]
 pub struct Handled {
     pub peer: Peer,
     pub actions: Actions,
 }
 
 // A rule on every peer's row: the passes over the ids.
-#[derive(Drop)]
+#[derive(Clone, Copy)]
 pub enum Pass {
     NewGrants(PeerSet),
     DoRevoke(PeerSet),
@@ -180,7 +182,7 @@ pub enum Pass {
 }
 
 // What a pass makes of one row, and whether the id is in the pass's first set and in its second.
-#[derive(Drop)]
+#[derive(Clone, Copy)]
 pub struct Visit {
     pub peer: Peer,
     pub first: bool,
@@ -189,7 +191,7 @@ pub struct Visit {
 
 // What a pass makes of all rows: its two sets, and the count of the first. Advance's are the sent and
 // the held timers that fired; the other passes have an empty second set.
-#[derive(Drop)]
+#[derive(Clone, Copy)]
 pub struct Passed {
     pub peers: [Peer; 64],
     pub first: Bitmap,
@@ -198,14 +200,14 @@ pub struct Passed {
 }
 
 // A notice's actions before they are numbered, and the next record.
-#[derive(Drop)]
+#[derive(Clone, Copy)]
 pub struct Acted {
     pub actions: Actions,
     pub manager: Manager,
 }
 
 // A notice that is not refused: its actions under their number, and the next record.
-#[derive(Drop)]
+#[derive(Clone, Copy)]
 pub struct Accepted {
     pub lines: Lines,
     pub manager: Manager,
@@ -214,7 +216,7 @@ pub struct Accepted {
 // A timer that fired: on which side, and whose. The id is a byte, as in the Rust, and the two structs are laid out as
 // in C, so that the list crosses to a host as it is.
 #[repr(C)]
-#[derive(Drop)]
+#[derive(Clone, Copy)]
 pub struct FiredTimer {
     // The held side; else the sent side.
     pub held: bool,
@@ -223,28 +225,28 @@ pub struct FiredTimer {
 
 // The timers that fired, in order: the first `count` places. The others hold the sent timer of the id 0.
 #[repr(C)]
-#[derive(Drop)]
+#[derive(Clone, Copy)]
 pub struct FiredTimers {
     pub count: usize,
     pub timers: [FiredTimer; 128],
 }
 
 // The quiet-end line (document 01's term), if advance gives it.
-#[derive(Drop)]
+#[derive(Clone, Copy)]
 pub enum QuietEnd {
     None,
     Given(Line),
 }
 
 // A drift setting: a true clock, or one that drifts by that many percent.
-#[derive(Drop)]
+#[derive(Clone, Copy)]
 pub enum DriftSetting {
     True,
     Drifting(i8),
 }
 
 // Time left of a held promise, in whole ms rounded up.
-#[derive(Drop)]
+#[derive(Clone, Copy)]
 pub enum TimeLeft {
     None,
     Ms(u64),
@@ -252,19 +254,19 @@ pub enum TimeLeft {
 
 // ---- the answers: what a call did, or document 01's number of its refusal
 
-#[derive(Drop)]
+#[derive(Clone, Copy)]
 pub enum SetUpOutcome {
     Refused(u8),
     Done,
 }
 
-#[derive(Drop)]
+#[derive(Clone, Copy)]
 pub enum NoticeOutcome {
     Refused(u8),
     Done(Lines),
 }
 
-#[derive(Drop)]
+#[derive(Clone, Copy)]
 pub enum AdvanceOutcome {
     Refused(u8),
     // The peers whose sent timers fired, those whose held timers fired, and the quiet-end line.
@@ -273,33 +275,33 @@ pub enum AdvanceOutcome {
 
 // What advance answers: the sets, and the same timers as a list in order (document 02, wish 2). A struct, as an enum
 // cannot hold an array. The list of a refused advance is empty.
-#[derive(Drop)]
+#[derive(Clone, Copy)]
 pub struct Advanced {
     pub outcome: AdvanceOutcome,
     pub fired: FiredTimers,
 }
 
 // Of `assume_unknown_grants` and the drift setting.
-#[derive(Drop)]
+#[derive(Clone, Copy)]
 pub enum PlainOutcome {
     Refused(u8),
     Done,
 }
 
 // Of `grant_set`, `lease_set` and `attempt_refresh`.
-#[derive(Drop)]
+#[derive(Clone, Copy)]
 pub enum SetOutcome {
     Refused(u8),
     Ids(Bitmap),
 }
 
-#[derive(Drop)]
+#[derive(Clone, Copy)]
 pub enum CountOutcome {
     Refused(u8),
     Count(u64),
 }
 
-#[derive(Drop)]
+#[derive(Clone, Copy)]
 pub enum TimeLeftOutcome {
     Refused(u8),
     Left(TimeLeft),
@@ -307,31 +309,31 @@ pub enum TimeLeftOutcome {
 
 // A by-value answer holds the next record beside the outcome, as an enum cannot hold an array. On a
 // refusal it is the record that went in; on a refused set-up it is a record that every call refuses.
-#[derive(Drop)]
+#[derive(Clone, Copy)]
 pub struct SetUpAnswer {
     pub outcome: SetUpOutcome,
     pub manager: Manager,
 }
 
-#[derive(Drop)]
+#[derive(Clone, Copy)]
 pub struct NoticeAnswer {
     pub outcome: NoticeOutcome,
     pub manager: Manager,
 }
 
-#[derive(Drop)]
+#[derive(Clone, Copy)]
 pub struct AdvanceAnswer {
     pub advanced: Advanced,
     pub manager: Manager,
 }
 
-#[derive(Drop)]
+#[derive(Clone, Copy)]
 pub struct PlainAnswer {
     pub outcome: PlainOutcome,
     pub manager: Manager,
 }
 
-#[derive(Drop)]
+#[derive(Clone, Copy)]
 pub struct RefreshAnswer {
     pub outcome: SetOutcome,
     pub manager: Manager,

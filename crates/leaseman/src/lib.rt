@@ -1,6 +1,8 @@
 // A notice on the manager's record, by value. The record is looked at first, then the notice's own
 // refusals; a refusal answers its number and the record as it came. No `requires`. The other calls of the
 // Rust's `LeaseManager` stand in clock_calls, outer_calls, questions and setup.
+#![tactic(auto)]
+
 ghost use Rattle.std.specs.Prelude.{◌≡◌};
 ghost use Rattle.lease.specs.Rules.{notice_of};
 

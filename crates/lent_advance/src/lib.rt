@@ -1,6 +1,8 @@
 // Advance over a lent record: the host lends the manager's record and finds it changed. The record is taken
 // apart and the by-value core called. With it the caller that lends: it has plain parameters, so that
 // whoever calls it needs no proof about lending.
+#![tactic(auto)]
+
 ghost use Rattle.std.specs.Prelude.{◌≡◌};
 ghost use Rattle.lease.specs.Rules.{advance_of};
 

@@ -1,5 +1,7 @@
 // Set-up's limits, which the record check looks at again. Every contract says that the result equals a
 // definition of lease/specs/Limits.
+#![tactic(auto)]
+
 ghost use Rattle.std.specs.Prelude.{◌≡◌};
 ghost use Rattle.lease.specs.Limits.{within, timeout_valid, population_valid, own_valid, reading_valid};
 

@@ -1,5 +1,7 @@
 // What becomes of a notice's actions: each under the notice's number, HigherNumber first where the
 // number was raised; and the reply to an outdated notice.
+#![tactic(auto)]
+
 ghost use Rattle.std.specs.Prelude.{◌≡◌};
 ghost use Rattle.lease.specs.Notices.{outdated_msg, outdated, numbered};
 

@@ -1,5 +1,7 @@
 // What the questions ask of a record that is not refused. Every contract says that the result equals a
 // definition of lease/specs/Calls.
+#![tactic(auto)]
+
 ghost use Rattle.std.specs.Prelude.{◌≡◌, ◌<◌};
 ghost use Rattle.bitmap.specs.Bitmaps.{capacity};
 ghost use Rattle.lease.specs.Calls.{grant_set, lease_set, lease_cnt, left_on, time_left};

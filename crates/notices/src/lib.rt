@@ -1,5 +1,7 @@
 // A notice that is not refused, on the record by value: the Rust's `handle_notice`, and the number step
 // of its `run`.
+#![tactic(auto)]
+
 ghost use Rattle.std.specs.Prelude.{◌≡◌};
 ghost use Rattle.lease.specs.Notices.{handle_notice, raised_to, acted_under, accepted_of};
 ghost use Rattle.passes.specs.Fits.{ManagerFits};

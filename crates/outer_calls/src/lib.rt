@@ -1,6 +1,8 @@
 // `assume_unknown_grants` and `attempt_refresh` on the manager's record, by value. The record is
 // looked at first, then the call's own refusals; a refusal answers its number and the record as it came.
 // None has a `requires`.
+#![tactic(auto)]
+
 ghost use Rattle.std.specs.Prelude.{◌≡◌};
 ghost use Rattle.lease.specs.Rules.{quiet_of, refresh_of};
 

@@ -1,4 +1,6 @@
 // The one pass over the ids: any rule about many peers, taken from row to row.
+#![tactic(auto)]
+
 ghost use Rattle.std.specs.Prelude.{◌≡◌, ◌≤◌, ◌<◌};
 ghost use Rattle.bitmap.specs.Bitmaps.{capacity};
 ghost use Rattle.lease.specs.Passes.{named, pass_row, visit_of, pass_over};

@@ -1,4 +1,6 @@
 // A notice about one peer on the record by value: that peer's row alone changes.
+#![tactic(auto)]
+
 ghost use Rattle.std.specs.Prelude.{◌≡◌, ◌<◌};
 ghost use Rattle.lease.specs.Notices.{on_peer};
 ghost use Rattle.passes.specs.Fits.{ManagerFits};

@@ -1,5 +1,7 @@
 // The questions, which change nothing: `grant_set`, `lease_set`, `lease_cnt` and time left. The record is
 // looked at first, then the call's own refusals. None has a `requires`.
+#![tactic(auto)]
+
 ghost use Rattle.std.specs.Prelude.{◌≡◌};
 ghost use Rattle.lease.specs.Rules.{grant_set_of, lease_set_of, lease_cnt_of, time_left_of};
 

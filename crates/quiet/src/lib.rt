@@ -1,5 +1,7 @@
 // The quiet timer at a reading, and the quiet-end line. Every contract says that the result equals a
 // definition of lease/specs/Calls.
+#![tactic(auto)]
+
 ghost use Rattle.std.specs.Prelude.{◌≡◌, ◌≤◌, ◌<◌};
 ghost use Rattle.bitmap.specs.Bitmaps.{capacity};
 ghost use Rattle.lease.specs.Calls.{quiet_fires, quiet_at, is_quiet, quiet_end};

@@ -1,5 +1,7 @@
 // Refusal 15: whether a record is one that calls from set-up can lead to, as far as document 01 asks.
 // Every contract says that the result equals a definition of lease/specs/RecordCheck.
+#![tactic(auto)]
+
 ghost use Rattle.std.specs.Prelude.{◌≡◌};
 ghost use Rattle.bitmap.specs.Bitmaps.{capacity};
 ghost use Rattle.drift.specs.Clocks.{is_settable};

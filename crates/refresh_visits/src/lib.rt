@@ -1,5 +1,7 @@
 // The rule of attempt_refresh on one row: whether the row's promise is extended, and its mark. The contract
 // says that the result equals a definition of lease/specs/Passes.
+#![tactic(auto)]
+
 ghost use Rattle.std.specs.Prelude.{◌≡◌, ◌≤◌};
 ghost use Rattle.drift.specs.Drift.{longest};
 ghost use Rattle.timer.specs.Timers.{max_reading};

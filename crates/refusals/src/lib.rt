@@ -1,5 +1,7 @@
 // The refusals of the calls on a record besides 15, in document 01's order: 0 where none applies. Every
 // contract says that the result equals a definition of lease/specs/Refusals.
+#![tactic(auto)]
+
 ghost use Rattle.std.specs.Prelude.{◌≡◌};
 ghost use Rattle.lease.specs.Refusals.{peer_refusal, set_refusal, notice_refusal, advance_refusal, refresh_refusal};
 

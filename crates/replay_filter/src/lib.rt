@@ -1,12 +1,14 @@
 // The program replay: event cards on standard input, output lines on standard output, any number of them in fixed
 // memory. Here bytes are only moved; what they give is card_feed's, and proved there.
+#![tactic(auto)]
+
 ghost use Rattle.std.specs.Prelude.{◌≤◌, length};
 
 use card_feed::{Replay, blank_replay, feed, finish};
 use libc::{STDIN_FILENO, STDOUT_FILENO};
 
 // What a turn leaves: whether there may be more to read, whether all went well, and what is kept.
-#[derive(Drop)]
+#[derive(Clone, Copy)]
 struct Moved {
     more: bool,
     well: bool,

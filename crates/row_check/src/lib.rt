@@ -1,5 +1,7 @@
 // Refusal 15 on one row: its timers and sides, or that it is empty. Every contract says that the result
 // equals a definition of lease/specs/RecordCheck.
+#![tactic(auto)]
+
 ghost use Rattle.std.specs.Prelude.{◌≡◌};
 ghost use Rattle.lease.specs.Rows.{present, granted};
 ghost use Rattle.lease.specs.RecordCheck.{timers_valid, sides_valid, row_valid, entries_empty, row_empty, row_valid_at};
@@ -26,7 +28,7 @@ fn are_valid_timers(now: Reading, row: Peer) -> bool
 }
 
 // In which tables the row has an entry.
-#[derive(Drop)]
+#[derive(Clone, Copy)]
 struct InTables {
     guard_sent: bool,
     promise_sent: bool,

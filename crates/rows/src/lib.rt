@@ -1,5 +1,7 @@
 // One id's row: what is asked of its entries, the row with one side anew, and the row as one that a pass has
 // visited. Every contract says that the result equals a definition of lease/specs/Rows or Passes.
+#![tactic(auto)]
+
 ghost use Rattle.std.specs.Prelude.{◌≡◌, ◌&&◌, ◌||◌};
 ghost use Rattle.lease.specs.Rows.{with_held, with_sent, present, granted, unexploded, unexploded_grant, active_entry};
 ghost use Rattle.lease.specs.Passes.{in_none, in_first};

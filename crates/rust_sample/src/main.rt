@@ -6,6 +6,8 @@
 // of its sent timer and of its held timer, or 0). The tag is 100 x mark + 10 x held + sent, where
 //     sent  0 none; guard 1 unarmed, 2 armed, 3 exploded; promise 8 unarmed, 4 armed, 5 exploded, and revoking 9, 6, 7
 //     held  0 none; guard 5 unarmed, 1 armed, 2 exploded; promise 6 unarmed, 3 armed, 4 exploded
+#![tactic(auto)]
+
 use biasflint::call;
 use host_answers::AnswerC;
 use host_cards::CallC;
@@ -21,7 +23,7 @@ use timer::Reading;
 const TURNS: u64 = 1_000_000;
 
 // The record between two cards, and whether there was one more.
-#[derive(Drop)]
+#[derive(Clone, Copy)]
 struct Turn {
     there: bool,
     manager: ManagerC,

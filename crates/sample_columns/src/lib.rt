@@ -1,5 +1,7 @@
 // Lines of fixed columns on standard input and output: a call is a line of 73 columns, an answer's line has 69. The
 // columns are those of event cards, read and written by `cards` and `card_lines`; the codes are the host library's.
+#![tactic(auto)]
+
 use cards::{CardRead, read_card};
 use host_cards::CallC;
 use host_lines::LineC;
@@ -8,7 +10,7 @@ use host_lines::LineC;
 const COLUMNS: usize = 73;
 
 // A card, if there was one.
-#[derive(Drop)]
+#[derive(Clone, Copy)]
 pub struct Card {
     pub there: bool,
     pub call: CallC,

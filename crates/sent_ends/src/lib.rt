@@ -1,4 +1,6 @@
 // How a promise that this controller has granted ends, on its peer's row: RevokeReply and GrantTimeout.
+#![tactic(auto)]
+
 ghost use Rattle.std.specs.Prelude.{◌≡◌};
 ghost use Rattle.lease.specs.Handlers.{handle_msg_revoke_reply, handle_grant_timeout};
 

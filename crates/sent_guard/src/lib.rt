@@ -1,5 +1,7 @@
 // GuardReply, on its peer's row: the sent guard becomes a promise that this controller has granted. `t` is a
 // timer that has just been kicked off.
+#![tactic(auto)]
+
 ghost use Rattle.std.specs.Prelude.{◌≡◌};
 ghost use Rattle.lease.specs.Handlers.{handle_msg_guard_reply};
 

@@ -1,5 +1,7 @@
 // PromiseReply, on its peer's row: what becomes of a promise that this controller has granted. `t` is a timer
 // that has just been kicked off.
+#![tactic(auto)]
+
 ghost use Rattle.std.specs.Prelude.{◌≡◌};
 ghost use Rattle.lease.specs.Handlers.{handle_msg_promise_reply};
 

@@ -1,4 +1,6 @@
 // The notices about many peers on the record by value: NewGrants, DoRevoke and ClearHeld.
+#![tactic(auto)]
+
 ghost use Rattle.std.specs.Prelude.{◌≡◌};
 ghost use Rattle.lease.specs.Notices.{handle_new_grants, handle_do_revoke, handle_clear_held};
 ghost use Rattle.passes.specs.Fits.{ManagerFits};

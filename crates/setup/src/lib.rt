@@ -1,4 +1,6 @@
 // Set-up: the Rust's `new_and_setup`.
+#![tactic(auto)]
+
 ghost use Rattle.std.specs.Prelude.{◌≡◌, ◌*◌, ◌≤◌, leb};
 ghost use Rattle.lease.specs.SetUp.{setup_refusal, fresh, setup_of};
 

@@ -3,6 +3,8 @@
 // says of it, then `ok` if the manager's answer is that, or `WRONG`. A line with "then" goes on with the
 // record of the line before; the others start from set-up. The words of a call stand in example_calls and
 // example_questions, and N and A here are add_notice and advance over a lent record.
+#![tactic(auto)]
+
 use example_calls::{Done, advanced, noticed, perform, start};
 use example_questions::{ask, is_question};
 use example_script::{Counts, copy_saying, judge, letter, notice, word, write_counts};
@@ -13,7 +15,7 @@ use timer::Reading;
 const TURNS: u64 = 1000;
 
 // The record to go on with, and the lines so far.
-#[derive(Drop)]
+#[derive(Clone, Copy)]
 struct Run {
     manager: Manager,
     counts: Counts,

@@ -1,5 +1,7 @@
 // The rules about many peers that look at the reading alone, each on one row: advance, and the test of
 // `lease_set`. Every contract says that the result equals a definition of lease/specs/Passes.
+#![tactic(auto)]
+
 ghost use Rattle.std.specs.Prelude.{◌≡◌};
 ghost use Rattle.lease.specs.Passes.{expired_entry, fires_entry, expired_grant, fires_grant, advance_row, leased_row};
 
@@ -9,13 +11,13 @@ use timer::Reading;
 use timer_readings::expire;
 
 // An entry at a reading, and whether its timer fired.
-#[derive(Drop)]
+#[derive(Clone, Copy)]
 struct ExpiredEntry {
     entry: Entry,
     fired: bool,
 }
 
-#[derive(Drop)]
+#[derive(Clone, Copy)]
 struct ExpiredGrant {
     grant: Grant,
     fired: bool,

@@ -1,6 +1,8 @@
 // Timers over a clock reading: the Rust's src/utils/timer.rs with no sleeper task. The caller says
 // what time it is. Every contract says that the result equals a definition of specs/Timers.antt.
 // Only the functions that add to a reading have a `requires`: that the sum fits 64 bits.
+#![tactic(auto)]
+
 ghost use Rattle.std.specs.Prelude.{◌≡◌, ◌≤◌, max};
 ghost use Rattle.drift.specs.Drift.{longest};
 ghost use Rattle.timer.specs.Timers.{max_reading, Near, drifted, kicked_off, extended_by};
@@ -12,11 +14,11 @@ use drift_clocks::clock_drifted;
 pub const MAX_READING: u64 = 9_223_372_036_854_775_807;
 
 // A clock reading in ns.
-#[derive(Drop)]
+#[derive(Clone, Copy)]
 pub struct Reading(pub u64);
 
 // A timer armed with a deadline holds the reading at which it explodes.
-#[derive(Drop)]
+#[derive(Clone, Copy)]
 pub enum Timer {
     Unarmed,
     Armed(Reading),
@@ -24,7 +26,7 @@ pub enum Timer {
 }
 
 // What a reading makes of a timer, and whether it fired.
-#[derive(Drop)]
+#[derive(Clone, Copy)]
 pub struct Expired {
     pub timer: Timer,
     pub fired: bool,

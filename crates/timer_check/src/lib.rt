@@ -1,5 +1,7 @@
 // Refusal 15 on the entries of one row: each timer by itself, and its deadline. Every contract says that
 // the result equals a definition of lease/specs/RecordCheck.
+#![tactic(auto)]
+
 ghost use Rattle.std.specs.Prelude.{◌≡◌};
 ghost use Rattle.lease.specs.RecordCheck.{deadline_valid, unarmed, sent_guard_valid, timer_valid, entry_valid, grant_valid};
 

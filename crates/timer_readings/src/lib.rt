@@ -1,6 +1,8 @@
 // What a clock reading says of a timer: whether it is active or exploded, whether it fires, and the time
 // that is left. No requires. Every contract says that the result equals a definition of timer's
 // specs/Timers.antt.
+#![tactic(auto)]
+
 ghost use Rattle.std.specs.Prelude.{◌≡◌};
 ghost use Rattle.timer.specs.Timers.{is_active, is_exploded, ms_left, expired_at};
 

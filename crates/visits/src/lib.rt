@@ -1,5 +1,7 @@
 // The rules about many peers that do not look at the clock, each on one row: what a pass makes of the
 // row, and whether its id is in the pass's sets. Every contract says that the result equals a definition of lease/specs/Passes.
+#![tactic(auto)]
+
 ghost use Rattle.std.specs.Prelude.{◌≡◌};
 ghost use Rattle.lease.specs.Passes.{new_grants_row, do_revoke_row, clear_held_row, higher_number_row, granted_row};
 

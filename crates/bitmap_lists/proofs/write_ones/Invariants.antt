@@ -1,0 +1,19 @@
+-- The loop's invariant: the ones below i are laid over the slice from its start, and `at` is how many they are.
+use Rattle.std.proofs.Common.{◌+◌, ◌≤◌, ◌-◌}
+use Rattle.std.proofs.Common.{◌≡◌, ◌∙◌}
+use Rattle.std.proofs.Common.{arith}
+use lib.ListN.{length}
+use borrow.Author.Rules.{rules}
+use Rattle.bitmap.specs.Sets.{one, count_where}
+use Rattle.bitmap.proofs.Sets.{count_where-more}
+use Rattle.bitmap.specs.Bitmaps.{is_one}
+use Rattle.bitmap.specs.Operations.{ids_below, laid_over}
+use Rattle.bitmap.proofs.Laws.{count_where-mono}
+use Rattle.bitmap_lists.proofs.Lists.{laid_more}
+use Rattle.bitmap_lists.proofs.write_ones.Given as goal
+
+abbrev pub invariant-loop-i : goal.invariant-loop-i
+invariant-loop-i l = (l.end ≡ l.b.size) × (l.i ≤ l.b.size) × (l.at ≡ count_where (is_one l.b) l.i) × (length l.out ≡ length l.initial.out) × (l.out ≡ laid_over (ids_below (is_one l.b) l.i) l.initial.out)
+
+abbrev pub decreases-loop-i : goal.decreases-loop-i
+decreases-loop-i l = l.b.size - l.i
