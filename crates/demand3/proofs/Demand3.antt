@@ -29,10 +29,10 @@ use Rattle.lease.specs.Refusals.{notice_refusal, advance_refusal}
 use Rattle.lease.specs.Rules.{notice_given, advance_refused, notice_of, advance_of, quiet_of, refresh_of, drift_of, grant_set_of, lease_set_of, lease_cnt_of, time_left_of}
 use Rattle.lease.specs.Verdicts.{Call, notice, advance, quiet-start, refresh, drift, grant-set, lease-set, lease-cnt, time-left, by_notice, by_advance, by_plain, by_set, by_count, by_time_left, verdict}
 use Rattle.lease.proofs.Judged.{judged-by}
-use Rattle.log.specs.Log.{journal_at, run_from}
-use Rattle.log.specs.Demand3.{Typed, AllTyped, run_of}
-use Rattle.log.specs.Program.{Chain, stop, step, left_by, Ruled, Answers}
-use Rattle.log.proofs.Program.{demand-3-of-ruled}
+use Rattle.lease_log.specs.Log.{journal_at, run_from}
+use Rattle.lease_log.specs.Demand3.{Typed, AllTyped, run_of}
+use Rattle.lease_log.specs.Program.{Chain, stop, step, left_by, Ruled, Answers}
+use Rattle.lease_log.proofs.Program.{demand-3-of-ruled}
 use Rattle.demand3.specs.CallContracts.{LentEnsures}
 use Rattle.demand3.specs.Demand3.{after_notice, after_advance, after_plain, after_set, Step, adds-notice, advances, assumes-unknown-grants, attempts-refresh, sets-drift, adds-notice-lent, advances-lent, adds-notice-lending, advances-lending, asks-grant-set, asks-lease-set, asks-lease-cnt, asks-time-left, Demand3, EveryList}
 

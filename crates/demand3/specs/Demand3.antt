@@ -27,8 +27,8 @@ use Rattle.lease.specs.declared.AdvanceAnswer.{AdvanceAnswer}
 use Rattle.lease.specs.declared.PlainAnswer.{PlainAnswer}
 use Rattle.lease.specs.declared.RefreshAnswer.{RefreshAnswer}
 use Rattle.lease.specs.Verdicts.{Call, notice, advance, quiet-start, refresh, drift, grant-set, lease-set, lease-cnt, time-left}
-use Rattle.log.specs.Demand3.{Typed, AllTyped, run_of}
-use Rattle.log.specs.Program.{Chain, Answers}
+use Rattle.lease_log.specs.Demand3.{Typed, AllTyped, run_of}
+use Rattle.lease_log.specs.Program.{Chain, Answers}
 use Rattle.demand3.specs.CallContracts.{NewAndSetup, AddNotice, Advance, AssumeUnknownGrants, AttemptRefresh, SetDrift, GrantSet, LeaseSet, LeaseCnt, TimeLeft, AddNoticeLent, AdvanceLent, AddNoticeLending, AdvanceLending}
 
 -- ---- the record of the next call, by value: the one returned; after a refusal the one that went in

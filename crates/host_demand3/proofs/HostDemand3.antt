@@ -8,10 +8,10 @@ use Rattle.timer.specs.declared.Reading.{Reading}
 use Rattle.lease.specs.declared.Manager.{Manager}
 use Rattle.lease.specs.Rules.{grant_set_of, lease_set_of, lease_cnt_of}
 use Rattle.lease.specs.Verdicts.{Call, verdict}
-use Rattle.log.specs.Demand3.{AllTyped}
-use Rattle.log.specs.Program.{Chain, left_by, Ruled, Answers}
-use Rattle.log.specs.Program as P
-use Rattle.log.proofs.Program.{demand-3-of-ruled}
+use Rattle.lease_log.specs.Demand3.{AllTyped}
+use Rattle.lease_log.specs.Program.{Chain, left_by, Ruled, Answers}
+use Rattle.lease_log.specs.Program as P
+use Rattle.lease_log.proofs.Program.{demand-3-of-ruled}
 use Rattle.host_record.specs.declared.ManagerC.{ManagerC}
 use Rattle.host_record.specs.Flat.{flat_of}
 use Rattle.host_answers.specs.declared.AnswerC.{AnswerC}

@@ -30,8 +30,8 @@ use Rattle.lease.specs.SetUp.{setup_refusal, fresh, setup_of}
 use Rattle.lease.specs.Rules.{notice_of, advance_of, quiet_of, refresh_of, drift_of, grant_set_of, lease_set_of, lease_cnt_of, time_left_of}
 use Rattle.lease.specs.Verdicts.{Call, notice, advance, quiet-start, refresh, drift, by_notice, by_advance, by_plain, by_set, by_count, by_time_left, verdict}
 use Rattle.lease.proofs.Edges.{refusals-keep}
-use Rattle.log.specs.Demand3.{Typed}
-use Rattle.log.specs.Program.{left_by}
+use Rattle.lease_log.specs.Demand3.{Typed}
+use Rattle.lease_log.specs.Program.{left_by}
 use Rattle.host_record.specs.declared.ManagerC.{ManagerC}
 use Rattle.host_record.specs.Flat.{flat_of}
 use Rattle.host_record.proofs.Laws.{there_and_back, flat-is-record}

@@ -7,8 +7,8 @@ use Rattle.std.specs.Prelude.{◌≡◌, cond, List, [], ◌∷◌, ℕ, eqb, lt
 use Rattle.lease.specs.declared.SetOutcome.TheVariants as SO
 use Rattle.lease.specs.declared.CountOutcome.TheVariants as CO
 use Rattle.lease.specs.Verdicts.{Call, notice, advance, quiet-start, refresh, drift, grant-set, lease-set, lease-cnt, time-left}
-use Rattle.log.specs.Log.{Journal}
-use Rattle.log.specs.Demand3.{Balanced, grants_by, leases_by, lease_count_by, run_of}
+use Rattle.lease_log.specs.Log.{Journal}
+use Rattle.lease_log.specs.Demand3.{Balanced, grants_by, leases_by, lease_count_by, run_of}
 use Rattle.host_record.specs.declared.ManagerC.{ManagerC}
 use Rattle.host_answers.specs.declared.AnswerC.{AnswerC}
 use Rattle.host_answers.specs.Answers.{set_answer, count_answer}

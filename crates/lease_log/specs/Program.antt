@@ -12,8 +12,8 @@ use Rattle.lease.specs.declared.SetUpOutcome.TheVariants.{Done}
 use Rattle.lease.specs.SetUp.{setup_of}
 use Rattle.lease.specs.Rules.{grant_set_of, lease_set_of, lease_cnt_of}
 use Rattle.lease.specs.Verdicts.{Call, Verdict, refused, done, verdict}
-use Rattle.log.specs.Log.{Journal}
-use Rattle.log.specs.Demand3.{AllTyped, Balanced, grants_by, leases_by, lease_count_by, run_of}
+use Rattle.lease_log.specs.Log.{Journal}
+use Rattle.lease_log.specs.Demand3.{AllTyped, Balanced, grants_by, leases_by, lease_count_by, run_of}
 
 -- A list of calls, each on the record that the last one returned or left. S is how a manager's calls lead from record to record.
 pub data Chain (S : Manager → Call → Manager → Type 0) : Manager → List Call → Manager → Type 0 where

@@ -19,8 +19,8 @@ use Rattle.lease.specs.declared.LeaseAction.TheVariants as A
 use Rattle.lease.specs.declared.Actions.TheVariants as AS
 use Rattle.lease.specs.Notices.{line, numbered}
 use Rattle.lease.specs.Verdicts.{lines_of}
-use Rattle.log.specs.Log.{LogLine, log-line, stamped, concerns, says_promise, is_promise, is_end, ended_in, open_lines, promise_lines, ended_lines, Last, held_after, held_by, top_after, top_of, last_from}
-use Rattle.log.proofs.Base.{Same, same, apart, sameb, sum_below, sum_below-cong, sum_below-add, sum_below-zero, sum_below-one}
+use Rattle.lease_log.specs.Log.{LogLine, log-line, stamped, concerns, says_promise, is_promise, is_end, ended_in, open_lines, promise_lines, ended_lines, Last, held_after, held_by, top_after, top_of, last_from}
+use Rattle.lease_log.proofs.Base.{Same, same, apart, sameb, sum_below, sum_below-cong, sum_below-add, sum_below-zero, sum_below-one}
 
 -- ---- lines at the end
 

@@ -30,8 +30,8 @@ use Rattle.lease.specs.SetUp.{fresh, setup_of}
 use Rattle.lease.specs.Rules.{notice_of, advance_of, quiet_of, grant_set_of, lease_set_of, lease_cnt_of}
 use Rattle.lease.specs.Verdicts.{Call, notice}
 use Rattle.lease.specs.Shift.{start, no, under}
-use Rattle.log.specs.Program.{stop, step}
-use Rattle.log.specs.Edges.{OneCounts, UntouchedFails, RepliesFalseFails, RepliesFalseBreaks}
+use Rattle.lease_log.specs.Program.{stop, step}
+use Rattle.lease_log.specs.Edges.{OneCounts, UntouchedFails, RepliesFalseFails, RepliesFalseBreaks}
 
 pub one-counts : OneCounts
 unfolding ids_where count_where below drifted_on pass_over row_valid row_empty row_valid_at rows_valid limits_valid record_valid handle_msg handle_peer_notice on_peer handle_new_grants handle_do_revoke handle_clear_held handle_notice raised_to accepted_of advance_to assume_unknown_grants grant_set grant_set_of fresh setup_of notice_of advance_of quiet_of

@@ -18,9 +18,9 @@ use Rattle.lease.specs.declared.NoticeAnswer.{NoticeAnswer}
 use Rattle.lease.specs.Rules.{notice_of, advance_of, grant_set_of}
 use Rattle.lease.specs.Verdicts.{Call, notice, advance, quiet-start, refresh, drift, grant-set, lease-set, lease-cnt, time-left}
 use Rattle.lease.specs.Shift.{ms, start, no, under}
-use Rattle.log.specs.Log.{Run, promise_lines, ended_lines}
-use Rattle.log.specs.Demand3.{run_of}
-use Rattle.log.specs.Program.{Ruled, Demand3For, GrantSet, LeaseSet, LeaseCnt}
+use Rattle.lease_log.specs.Log.{Run, promise_lines, ended_lines}
+use Rattle.lease_log.specs.Demand3.{run_of}
+use Rattle.lease_log.specs.Program.{Ruled, Demand3For, GrantSet, LeaseSet, LeaseCnt}
 
 -- population 3, own id 0, T = 1 s, start 0
 abbrev pub shift_run : List Call → Run

@@ -27,9 +27,9 @@ use Rattle.lease.specs.Rows.{granted, present, active_entry}
 use Rattle.lease.specs.Handlers.{handle_msg_guard, handle_msg_guard_reply, handle_msg_promise, handle_msg_promise_reply, handle_msg_revoke, handle_msg_revoke_reply, handle_grant_timeout, handle_lease_timeout, handle_msg, handle_peer_notice}
 use Rattle.lease.specs.Passes.{new_grants_row, do_revoke_row, clear_held_row, higher_number_row, advance_row, refresh_row, expired_entry, expired_grant}
 use Rattle.lease.specs.RecordCheck.{deadline_valid, sent_guard_valid, entry_valid, grant_valid, timers_valid, sides_valid, row_valid}
-use Rattle.log.specs.Log.{Last, no_line, in-at, out, in_lease}
-use Rattle.log.proofs.Base.{AtMost, at_most, beyond, lebb, both}
-use Rattle.log.proofs.LogFacts.{actions_of, ended_actions, open_actions, last_actions, About}
+use Rattle.lease_log.specs.Log.{Last, no_line, in-at, out, in_lease}
+use Rattle.lease_log.proofs.Base.{AtMost, at_most, beyond, lebb, both}
+use Rattle.lease_log.proofs.LogFacts.{actions_of, ended_actions, open_actions, last_actions, About}
 
 abbrev pub row_of : Entry → Grant → Entry → Entry → Bool → Peer
 row_of gs g gh ph m = record { guard_sent = gs; promise_sent = g; guard_held = gh; promise_held = ph; refresh_mark = m }

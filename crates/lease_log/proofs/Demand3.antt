@@ -48,13 +48,13 @@ use Rattle.lease.specs.SetUp.{setup_refusal, fresh, setup_of}
 use Rattle.lease.specs.Refusals.{notice_refusal, advance_refusal, refresh_refusal}
 use Rattle.lease.proofs.Judged.{judged-by, plain_of}
 use Rattle.lease.specs.Verdicts.{done, Call, notice, advance, quiet-start, refresh, drift, grant-set, lease-set, lease-cnt, time-left, by_notice, by_advance, by_plain, by_set, by_count, by_time_left, verdict, lines_of}
-use Rattle.log.specs.Demand3.{Typed, AllTyped, grants_by, leases_by, lease_count_by, LogDecides, Demand3}
-use Rattle.log.specs.Log.{stamped, open_lines, is_open, promise_lines, ended_lines, no_line, last_held, QuietStart, never, since, Journal, noted, journal_at, Run, stepped, run_from, quiet_since, quiet_time, is_leased}
-use Rattle.log.proofs.Base.{Same, same, apart, sameb, Below, below, above, belowb, AtMost, at_most, beyond, lebb, both, sum_below-cong, count_where-sum}
-use Rattle.log.proofs.Base as Base
-use Rattle.log.proofs.LogFacts.{balance}
-use Rattle.log.proofs.RowFacts.{RowInv, row-grant, row_open, row-lease, row-valid, deadline-valid}
-use Rattle.log.proofs.Invariant.{QuietOk, Inv, longer, notice-inv, advance-inv, quiet-inv, drift-inv, refresh-inv}
+use Rattle.lease_log.specs.Demand3.{Typed, AllTyped, grants_by, leases_by, lease_count_by, LogDecides, Demand3}
+use Rattle.lease_log.specs.Log.{stamped, open_lines, is_open, promise_lines, ended_lines, no_line, last_held, QuietStart, never, since, Journal, noted, journal_at, Run, stepped, run_from, quiet_since, quiet_time, is_leased}
+use Rattle.lease_log.proofs.Base.{Same, same, apart, sameb, Below, below, above, belowb, AtMost, at_most, beyond, lebb, both, sum_below-cong, count_where-sum}
+use Rattle.lease_log.proofs.Base as Base
+use Rattle.lease_log.proofs.LogFacts.{balance}
+use Rattle.lease_log.proofs.RowFacts.{RowInv, row-grant, row_open, row-lease, row-valid, deadline-valid}
+use Rattle.lease_log.proofs.Invariant.{QuietOk, Inv, longer, notice-inv, advance-inv, quiet-inv, drift-inv, refresh-inv}
 
 -- a test that refuses where it is true, or where it is false, passed
 passed : (b : Bool) (k x : ℕ) → cond b (suc k) x ≡ 0 → (b ≡ false) × (x ≡ 0)

@@ -16,7 +16,7 @@ use Rattle.lease.specs.RecordCheck.{record_valid}
 use Rattle.lease.specs.SetUp.{setup_of}
 use Rattle.lease.specs.Rules.{grant_set_of, lease_set_of, lease_cnt_of}
 use Rattle.lease.specs.Verdicts.{Call, notice, advance, quiet-start, refresh, drift, grant-set, lease-set, lease-cnt, time-left}
-use Rattle.log.specs.Log.{Journal, Run, journal_at, run_from, promise_lines, ended_lines, is_open, quiet_time, is_leased}
+use Rattle.lease_log.specs.Log.{Journal, Run, journal_at, run_from, promise_lines, ended_lines, is_open, quiet_time, is_leased}
 
 -- The one premise on a call's arguments: a drift setting is true or an i8, as its type in the program says.
 abbrev pub Typed : Call → Type 0

@@ -5,10 +5,10 @@ use mathlib.Core.List.{List, [], ◌∷◌}
 use Rattle.lease.specs.declared.Manager.{Manager}
 use Rattle.lease.specs.Rules.{grant_set_of, lease_set_of, lease_cnt_of}
 use Rattle.lease.specs.Verdicts.{Call, Verdict, refused, done, verdict}
-use Rattle.log.specs.Log.{Journal, journal_at, Run, stepped, run_from}
-use Rattle.log.specs.Demand3.{LogDecides, run_of}
-use Rattle.log.specs.Program.{Chain, stop, step, left_by, Ruled, Demand3OfRuled}
-use Rattle.log.proofs.Demand3.{demand-3}
+use Rattle.lease_log.specs.Log.{Journal, journal_at, Run, stepped, run_from}
+use Rattle.lease_log.specs.Demand3.{LogDecides, run_of}
+use Rattle.lease_log.specs.Program.{Chain, stop, step, left_by, Ruled, Demand3OfRuled}
+use Rattle.lease_log.proofs.Demand3.{demand-3}
 
 left-stepped : (r : Run) (c : Call) (v : Verdict) → (stepped r c v).manager ≡ left_by r.manager v
 left-stepped r c (refused k) = refl

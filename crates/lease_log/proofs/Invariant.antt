@@ -48,12 +48,12 @@ use Rattle.lease.specs.Calls.{quiet_at, advance_to, assume_unknown_grants, refre
 use Rattle.lease.proofs.Judged.{peer-below, peer-other}
 use Rattle.lease.specs.Refusals.{peer_refusal, notice_refusal}
 use Rattle.lease.specs.Verdicts.{drift, lines_of}
-use Rattle.log.specs.Demand3.{Typed}
-use Rattle.log.specs.Log.{LogLine, log-line, stamped, open_lines, Last, no_line, out, top_of, held_by, last_from, last_held, QuietStart, never, since, Journal}
-use Rattle.log.proofs.Base.{Same, same, apart, sameb, Below, below, above, belowb, AtMost, at_most, lebb}
-use Rattle.log.proofs.LogFacts.{open-append, top-append, last-append, Within, within-append, actions_of, lines_under, numbered-same, numbered-higher, About, ended-own, open_own, last-own, ended-other, open-other, last-other, top-lined, within-own}
-use Rattle.log.proofs.RowFacts.{RowInv, peer-notice-row, peer-notice-about, new-grants-row, do-revoke-row, clear-held-row, higher-number-row, refresh-row, advance-row}
-use Rattle.log.proofs.Base as Base
+use Rattle.lease_log.specs.Demand3.{Typed}
+use Rattle.lease_log.specs.Log.{LogLine, log-line, stamped, open_lines, Last, no_line, out, top_of, held_by, last_from, last_held, QuietStart, never, since, Journal}
+use Rattle.lease_log.proofs.Base.{Same, same, apart, sameb, Below, below, above, belowb, AtMost, at_most, lebb}
+use Rattle.lease_log.proofs.LogFacts.{open-append, top-append, last-append, Within, within-append, actions_of, lines_under, numbered-same, numbered-higher, About, ended-own, open_own, last-own, ended-other, open-other, last-other, top-lined, within-own}
+use Rattle.lease_log.proofs.RowFacts.{RowInv, peer-notice-row, peer-notice-about, new-grants-row, do-revoke-row, clear-held-row, higher-number-row, refresh-row, advance-row}
+use Rattle.lease_log.proofs.Base as Base
 
 -- ---- what is needed of drift: a setting's clock is one that the record check takes
 
