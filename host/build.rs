@@ -1,4 +1,4 @@
-//! Links `libbiasflint.a`, which `rt staticlib biasflint` writes, from `../target/staticlib` or
+//! Links `libbiasflint.a`, which `tools/archives biasflint` writes, from `../target/staticlib` or
 //! from the folder that `BIASFLINT_LIB` names.
 use std::{env, path::PathBuf};
 
@@ -11,7 +11,7 @@ fn main() {
     println!("cargo:rerun-if-changed={}", archive.display());
     if !archive.exists() {
         panic!(
-            "{} is not there: run `rt staticlib biasflint` at the repository's root first",
+            "{} is not there: run `tools/archives biasflint` at the repository's root first",
             archive.display()
         );
     }

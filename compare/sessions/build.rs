@@ -1,4 +1,4 @@
-//! Links libdrift_c.a and libbitmap_c.a, which `rt staticlib` writes, from ../../target/staticlib or from the folder
+//! Links libdrift_c.a and libbitmap_c.a, which `tools/archives` writes, from ../../target/staticlib or from the folder
 //! that BIASFLINT_LIB names. The host crate links libbiasflint.a from the same folder.
 use std::{env, path::PathBuf};
 
@@ -13,7 +13,7 @@ fn main() {
         println!("cargo:rerun-if-changed={}", archive.display());
         if !archive.exists() {
             panic!(
-                "{} is not there: run `rt staticlib {name}` at the repository's root first",
+                "{} is not there: run `tools/archives {name}` at the repository's root first",
                 archive.display()
             );
         }

@@ -1,4 +1,4 @@
-// The library for a host in Rust or C: one call on a record that the host owns and lends.
+// The host library: one call on a record that the host owns and lends. biasflint_c is its archive for a host in Rust or C.
 #![tactic(auto)]
 
 ghost use Rattle.std.specs.Prelude.{◌≡◌};
@@ -59,8 +59,7 @@ pub fn call(f: ManagerC, c: CallC) -> CalledC
 }
 
 // Any call on a lent record: the host finds it as the call leaves it.
-#[unsafe(no_mangle)]
-pub extern "C" fn biasflint_call(m: &mut ManagerC, card: CallC) -> AnswerC
+pub fn biasflint_call(m: &mut ManagerC, card: CallC) -> AnswerC
     ensures { (result ≡ (call_of m.old card).answer) × (m.new ≡ (call_of m.old card).manager) }
 {
     let called = call(*m, card);
