@@ -17,7 +17,7 @@ unfolding pass_over
 overflow_add-result c =
     let s = c in
     let few = s.requires.few in
-    let most = count_where-le (is_first (Leased s.args.m.now-1) s.args.m.me s.args.m.peers-1) s.args.m.population in
+    let most = count_where-le (is_first (Leased s.args.m.now) s.args.m.me s.args.m.peers) s.args.m.population in
     rw c.pass_over-p.ensures (omega arith)
 
 pub returns : goal.returns

@@ -1,0 +1,11 @@
+-- What is left of `host_form::is_clock`.
+use borrow.Author.Tests.{eq-eqb, ne_eqb}
+use borrow.Author.Rules.{rules}
+use Rattle.std.proofs.Common.{refl}
+use lib.Ieee.{of_bits, of_int, div}
+use Rattle.drift.specs.Drift.{ratio}
+use Rattle.host_form.proofs.is_clock.Goals as goal
+
+pub returns-then-drifting-eq0 : goal.returns-then-drifting-eq0
+unfolding ratio of_bits of_int div
+returns-then-drifting-eq0 c = simp (eq-eqb _ _ c.if-drifting-eq0.true) refl
