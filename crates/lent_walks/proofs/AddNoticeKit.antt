@@ -12,11 +12,9 @@ use denote.Enum.Laws as EL
 use Rattle.lent_walks.proofs.ManagerKit.{val}
 use Rattle.lease.specs.declared.LeaseNotice.{LeaseNotice}
 use Rattle.lease.specs.declared.LeaseNum.{LeaseNum}
-use Rattle.lease.specs.declared.Manager.{Manager}
 use Rattle.lease.specs.declared.NoticeAnswer.{NoticeAnswer}
 use Rattle.lease.specs.declared.NoticeOutcome.{NoticeOutcome}
 use Rattle.lease.specs.contracts.Manager as T
-use Rattle.lease.proofs.Manager.TheLaws as T'
 use Rattle.lease.specs.contracts.NoticeAnswer as S
 use Rattle.lease.proofs.NoticeAnswer.TheLaws as S'
 use Rattle.lease.specs.contracts.NoticeOutcome as O

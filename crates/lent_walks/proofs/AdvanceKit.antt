@@ -11,10 +11,8 @@ use denote.Struct.Laws as LL
 use Rattle.lent_walks.proofs.ManagerKit.{val}
 use Rattle.lease.specs.declared.AdvanceAnswer.{AdvanceAnswer}
 use Rattle.lease.specs.declared.Advanced.{Advanced}
-use Rattle.lease.specs.declared.Manager.{Manager}
 use Rattle.timer.specs.declared.Reading.{Reading}
 use Rattle.lease.specs.contracts.Manager as T
-use Rattle.lease.proofs.Manager.TheLaws as T'
 use Rattle.lease.specs.contracts.AdvanceAnswer as S
 use Rattle.lease.proofs.AdvanceAnswer.TheLaws as S'
 use Rattle.lease.specs.contracts.Advanced as O

@@ -2,13 +2,13 @@
 use Prim.Native.Nat.{ℕ}
 use mathlib.Core.List.{[], ◌∷◌, List}
 use seplogic.Ra.Ura.{Ura}
-use seplogic.Ra.TreeShare.{full_share}
+use base.Fraction.{full_share}
 use lib.Dec.{T as Holds}
 use mir.Syntax.{Ty, Written}
 use mir.Val.{Val, has_ty, WT}
 use base.Logic.{ent, guard}
 use base.Stored.{Coded}
-use base.Fml.{Fml, fsep, fat}
+use base.Fml.{Fml, Lft, fsep, fat}
 use types.Logic.{Logic, sem}
 use types.Kit.{‵, ◌$◌, ◌∵◌, !, qed, move, drop, use1, check, fsplit, fjoin, fpick, fpack, done}
 use denote.Exit.{Kept, Exit}
@@ -18,10 +18,10 @@ use denote.Memory.{cell_at, part_at, part_of}
 use denote.Steps.{owned, peeks}
 use denote.Struct.Steps.{spelt}
 
-module _ (D : Type 0) (wr : Written) (rs : List (Written × List Ty)) (own : D → List Val → Fml) (xt : Kept → Exit D) (cd : Coded D) (τT : Ty) where
+module _ (D : Type 0) (wr : Written) (rs : List (Written × List Ty)) (own : D → List Val → Fml) (xt : Kept → Exit D) (cd : Coded D) (lv : Lft) (sh : D → ℕ → ℕ → Lft → Fml) (τT : Ty) where
   -- the record's row
   abbrev pub R : RattleType
-  R = record { Denot = D; mir = τT ∷ []; written = wr; reaches = rs; own_val = own; exit = xt; coded = cd }
+  R = record { Denot = D; mir = τT ∷ []; written = wr; reaches = rs; lives = lv; own_val = own; exit = xt; coded = cd; shr_at = sh }
 
   module _ {M : Type 1} {𝓤 : Ura M} (𝓛 : Logic 𝓤) (v : D → Val) (tl : Tells R (Is R) (λ d. v d ∷ [])) (ty : (d : D) (w : Val) → Is R d (w ∷ []) → Holds (has_ty τT w) × WT w) (mk : Makes 𝓛 R (Is R)) where
     -- a local that holds a record is memory in which the record lies, and back

@@ -1,0 +1,27 @@
+-- Each test passed says that its field is a number.
+use Rattle.cards.specs.Cards.{all_numbers}
+use Rattle.cards.proofs.all_numbers.Goals as goal
+
+pub returns-then-not-is_number : goal.returns-then-not-is_number
+unfolding all_numbers
+returns-then-not-is_number c = simp (← c.is_number.ensures, c.if-not-is_number.true)
+
+pub returns-then-not-is_number-2 : goal.returns-then-not-is_number-2
+unfolding all_numbers
+returns-then-not-is_number-2 c = simp (← c.is_number.ensures, c.if-not-is_number.false, ← c.is_number-2.ensures, c.if-not-is_number-2.true)
+
+pub returns-then-not-is_number-3 : goal.returns-then-not-is_number-3
+unfolding all_numbers
+returns-then-not-is_number-3 c = simp (← c.is_number.ensures, c.if-not-is_number.false, ← c.is_number-2.ensures, c.if-not-is_number-2.false, ← c.is_number-3.ensures, c.if-not-is_number-3.true)
+
+pub returns-then-not-is_number-4 : goal.returns-then-not-is_number-4
+unfolding all_numbers
+returns-then-not-is_number-4 c = simp (← c.is_number.ensures, c.if-not-is_number.false, ← c.is_number-2.ensures, c.if-not-is_number-2.false, ← c.is_number-3.ensures, c.if-not-is_number-3.false, ← c.is_number-4.ensures, c.if-not-is_number-4.true)
+
+pub returns-then-not-is_number-5 : goal.returns-then-not-is_number-5
+unfolding all_numbers
+returns-then-not-is_number-5 c = simp (← c.is_number.ensures, c.if-not-is_number.false, ← c.is_number-2.ensures, c.if-not-is_number-2.false, ← c.is_number-3.ensures, c.if-not-is_number-3.false, ← c.is_number-4.ensures, c.if-not-is_number-4.false, ← c.is_number-5.ensures, c.if-not-is_number-5.true)
+
+pub returns : goal.returns
+unfolding all_numbers
+returns c = simp (← c.is_number.ensures, c.if-not-is_number.false, ← c.is_number-2.ensures, c.if-not-is_number-2.false, ← c.is_number-3.ensures, c.if-not-is_number-3.false, ← c.is_number-4.ensures, c.if-not-is_number-4.false, ← c.is_number-5.ensures, c.if-not-is_number-5.false, c.is_number-6.ensures)

@@ -1,0 +1,45 @@
+-- The line is read by its six fields.
+use borrow.Author.Tests.{eq-eqb, ne_eqb}
+use Rattle.cards.specs.Cards.{card_read}
+use Rattle.cards.proofs.read_card.Goals as goal
+
+pub returns-then-line-ne-COLUMNS : goal.returns-then-line-ne-COLUMNS
+unfolding card_read
+returns-then-line-ne-COLUMNS c = simp (ne_eqb _ _ c.if-line-ne-COLUMNS.true)
+
+pub returns-then-not-all_numbers : goal.returns-then-not-all_numbers
+unfolding card_read
+returns-then-not-all_numbers c =
+    simp (
+      eq-eqb _ _ c.if-line-ne-COLUMNS.false,
+      ← c.field_of-code.ensures,
+      ← c.field_of-number.ensures,
+      ← c.field_of-peer.ensures,
+      ← c.field_of-size.ensures,
+      ← c.field_of-first.ensures,
+      ← c.field_of-second.ensures,
+      ← c.all_numbers.ensures,
+      c.if-not-all_numbers.true,
+    )
+
+pub returns : goal.returns
+unfolding card_read
+returns c =
+    simp (
+      eq-eqb _ _ c.if-line-ne-COLUMNS.false,
+      ← c.field_of-code.ensures,
+      ← c.field_of-number.ensures,
+      ← c.field_of-peer.ensures,
+      ← c.field_of-size.ensures,
+      ← c.field_of-first.ensures,
+      ← c.field_of-second.ensures,
+      ← c.all_numbers.ensures,
+      c.if-not-all_numbers.false,
+      c.six.ensures,
+      c.number_in.ensures,
+      c.number_in-2.ensures,
+      c.number_in-3.ensures,
+      c.number_in-4.ensures,
+      c.number_in-5.ensures,
+      c.number_in-6.ensures,
+    )
