@@ -7,9 +7,7 @@ use Rattle.bitmap.specs.declared.Bitmap.{Bitmap}
 use Rattle.bitmap.specs.declared.BitmapAnswer.{BitmapAnswer}
 use Rattle.bitmap.specs.declared.BitmapAnswer.TheVariants.{Refused, Set}
 use Rattle.bitmap.specs.declared.FlagAnswer.{FlagAnswer}
-use Rattle.bitmap.specs.declared.FlagAnswer.TheVariants as FlagAnswer
 use Rattle.bitmap.specs.declared.CountAnswer.{CountAnswer}
-use Rattle.bitmap.specs.declared.CountAnswer.TheVariants as CountAnswer
 use Rattle.bitmap.specs.Sets.{count_where}
 use Rattle.bitmap.specs.Bitmaps.{capacity, bitmap_where, is_one}
 

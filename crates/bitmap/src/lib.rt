@@ -7,7 +7,6 @@ ghost use Rattle.bitmap.specs.Sets.{member, one, weight};
 ghost use Rattle.bitmap.specs.Bitmaps.{capacity, number, bitmap_of, is_one};
 ghost use Rattle.bitmap.specs.Operations.{bad_size};
 
-
 // How many ids a bitmap has room for.
 pub const CAPACITY: u8 = 64;
 

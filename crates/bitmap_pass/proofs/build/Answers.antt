@@ -1,5 +1,4 @@
 -- The answer is 12 or the set of the ids that the rule takes.
-use borrow.Author.Rules.{rules}
 use Rattle.bitmap.proofs.Bitmaps.{size-le}
 use Rattle.bitmap_pass.proofs.build.Goals as goal
 

@@ -1,8 +1,5 @@
 -- The loop's invariant: what is chosen so far are the ids below i that the rule takes.
-use Rattle.std.proofs.Common.{ℕ, ◌+◌, ◌≤◌, ◌-◌}
-use Rattle.std.proofs.Common.{Bool}
-use Rattle.std.proofs.Common.{◌≡◌, ◌∙◌}
-use Rattle.std.proofs.Common.{arith}
+use Rattle.std.proofs.Common.{ℕ, ◌+◌, Bool, ◌≡◌}
 use borrow.Author.Rules.{rules}
 use Rattle.bitmap.specs.Sets.{ids_where, count_where}
 use Rattle.bitmap.proofs.Sets.{ids_where-lt, ids_where-more, count_where-le, count_where-more}

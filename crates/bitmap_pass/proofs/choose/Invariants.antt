@@ -1,12 +1,6 @@
 -- The loop's invariant: what is chosen so far are the ids below i that the rule takes.
-use Rattle.std.proofs.Common.{ℕ, ◌+◌, ◌≤◌, ◌-◌}
-use Rattle.std.proofs.Common.{Bool}
-use Rattle.std.proofs.Common.{◌≡◌, ◌∙◌}
-use Rattle.std.proofs.Common.{arith}
-use borrow.Author.Rules.{rules}
-use Rattle.bitmap.specs.Sets.{ids_where, count_where}
-use Rattle.bitmap.proofs.Sets.{ids_where-lt, ids_where-more, count_where-le, count_where-more}
-use Rattle.bitmap_pass.specs.Rules.{taken_by, chosen_below, chosen_with}
+use Rattle.std.proofs.Common.{◌≤◌, ◌-◌, ◌≡◌}
+use Rattle.bitmap_pass.specs.Rules.{taken_by, chosen_below}
 use Rattle.bitmap_pass.proofs.choose.Given as goal
 
 abbrev pub invariant-loop-i : goal.invariant-loop-i

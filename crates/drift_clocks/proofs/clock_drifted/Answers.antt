@@ -1,6 +1,5 @@
 -- What is left of `drift_clocks::clock_drifted`.
 use Rattle.std.proofs.Common.{◌≡◌, sym, ap, ◌∙◌, ℕ}
-use borrow.Author.Rules.{rules}
 use lib.Ieee.{Float, binary64, mul, of_bits}
 use Rattle.drift.specs.Drift.{product_of, drifted_by, seconds_of, ns_of}
 use Rattle.drift.specs.declared.Clock.{Clock}

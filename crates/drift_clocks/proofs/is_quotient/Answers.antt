@@ -1,11 +1,9 @@
 -- What no setting can give is refused by the two limits, and between them the one comparison decides (`drift/proofs/Quotients.antt`).
 use Rattle.std.proofs.Common.{ap, ◌∙◌, subst, ℕ, ◌≤◌, ◌<◌, arith}
-use native.Mathlib.Nat.{le_trans}
-use borrow.Author.Rules.{rules}
-use lib.Dec.{T, lit≤}
+use lib.Dec.{T}
 use lib.Ieee.{Float, eq}
 use Rattle.drift.specs.Drift.{quotient_at, is_quotient, ns_of}
-use Rattle.drift.proofs.Quotients.{guess, guess-le, ns-ge, ns-le, decides, not_found}
+use Rattle.drift.proofs.Quotients.{guess, ns-ge, ns-le, decides, not_found}
 use Rattle.drift_clocks.proofs.is_quotient.Goals as goal
 
 clash : (a b : ℕ) → a < b → b ≤ a → ⊥

@@ -1,9 +1,7 @@
 -- Each way out is a fact of `drift/proofs/Pattern.antt`, of the bit pattern that the code takes apart.
 use Rattle.std.proofs.Common.{sym, ◌∙◌, subst}
-use borrow.Author.Rules.{rules}
 use lib.Dec.{T}
-use lib.Ieee.{binary64, fits}
-use Rattle.drift.proofs.Pattern.{no_nan, not-above, low_field, high-field, mid-field}
+use Rattle.drift.proofs.Pattern.{not-above, low_field, high-field, mid-field}
 use Rattle.drift_floats.proofs.in_ns.Goals as goal
 
 pub returns-then-field-lt980 : goal.returns-then-field-lt980

@@ -1,7 +1,6 @@
 -- Each of the three ways out is a fact of `drift/proofs/Halves.antt`.
-use Rattle.std.proofs.Common.{ℕ, ◌*◌, ◌/◌, ◌^◌, ◌≤◌, ◌<◌, arith}
-use native.Mathlib.Nat.{le_trans, div-le_self}
-use Rattle.drift.proofs.Halves.{high, half_lt, rounds-down, rounds-even, rounds-up}
+use Rattle.std.proofs.Common.{arith}
+use Rattle.drift.proofs.Halves.{half_lt, rounds-down, rounds-even, rounds-up}
 use Rattle.drift_floats.proofs.nearest_ns.Goals as goal
 use Rattle.drift_floats.proofs.nearest_ns.Goals.{then-part-half-2+else-rest-eq0, else-part-half-2}
 

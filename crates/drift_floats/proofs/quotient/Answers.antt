@@ -1,12 +1,10 @@
 -- What is passed on is what the machine reads back from d's bits, which is d.
-use Rattle.std.proofs.Common.{ap, ◌∙◌, sym, subst}
-use Rattle.std.proofs.Common.{ℕ, ◌≤◌}
+use Rattle.std.proofs.Common.{ap, ◌∙◌, sym, subst, ℕ, ◌≤◌}
 use native.Mathlib.Nat.{le_trans}
-use borrow.Author.Rules.{rules}
 use lib.Dec.{lit≤}
 use mir.Syntax.{w8}
 use mir.ValLaws.{to_z-of_z}
-use Rattle.drift.specs.Drift.{rate_of, quotient_at}
+use Rattle.drift.specs.Drift.{rate_of}
 use Rattle.drift.proofs.Rates.{rate-le}
 use Rattle.drift_floats.proofs.quotient.Goals as goal
 

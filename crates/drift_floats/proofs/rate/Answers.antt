@@ -1,11 +1,7 @@
 -- `drift_floats::rate` meets its contract: nothing wraps, since 100 + d is from -28 to 227.
-use Rattle.std.proofs.Common.{sym, ap, ◌∙◌, subst}
+use Rattle.std.proofs.Common.{sym, ap, ◌∙◌}
 use lib.IntN.{ℤ, pos, nat_abs}
-use lib.Signed.{lt_z, non_neg}
-use lib.Dec.{T}
-use mir.Syntax.{w8, w16, w64}
-use mir.Val.{SFits, Fits}
-use mir.ValLaws.{to_z-of_z}
+use lib.Signed.{lt_z}
 use Rattle.drift.specs.Drift.{rate_of}
 use Rattle.drift.proofs.Rates as rates
 use Rattle.drift_floats.proofs.rate.Goals as goal

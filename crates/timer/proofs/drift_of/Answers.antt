@@ -1,6 +1,5 @@
 -- Its bound is drift's law `clock-le`.
 use Rattle.std.proofs.Common.{◌≡◌, sym, ap, subst, ℕ, ◌≤◌, max}
-use borrow.Author.Rules.{rules}
 use Rattle.drift.specs.declared.Drifted.{Drifted}
 use Rattle.drift.specs.Drift.{longest}
 use Rattle.drift.proofs.Laws.{clock-le}
