@@ -1,6 +1,5 @@
 -- The count is at most the size, so it fits a byte.
 use Rattle.std.proofs.Common.{arith}
-use borrow.Author.Rules.{rules}
 use Rattle.bitmap.specs.Bitmaps.{is_one}
 use Rattle.bitmap.proofs.Sets.{count_where-le}
 use Rattle.bitmap.proofs.Bitmaps.{size-le}

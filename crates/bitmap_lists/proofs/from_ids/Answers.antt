@@ -1,5 +1,4 @@
 -- The refusals in order, then what `of_list` gives.
-use borrow.Author.Rules.{rules}
 use Rattle.bitmap.proofs.Bitmaps.{size-le}
 use Rattle.bitmap_lists.proofs.from_ids.Goals as goal
 

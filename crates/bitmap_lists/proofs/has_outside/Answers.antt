@@ -1,7 +1,6 @@
 -- The loop's invariant: whether an id is outside is left to the ids from k on.
-use Rattle.std.proofs.Common.{◌≤◌, ◌-◌}
-use Rattle.std.proofs.Common.{◌≡◌, ◌∙◌}
-use lib.ListN.{length, drop, drop_of_length-le}
+use Rattle.std.proofs.Common.{◌-◌, ◌∙◌}
+use lib.ListN.{drop_of_length-le}
 use borrow.Author.Tests.{le-leb, lt-leb}
 use borrow.Author.Rules.{rules}
 use Rattle.bitmap.specs.Operations.{outside}

@@ -1,11 +1,7 @@
 -- The loop's invariant: whether an id is outside is left to the ids from k on.
-use Rattle.std.proofs.Common.{◌≤◌, ◌-◌}
-use Rattle.std.proofs.Common.{◌≡◌, ◌∙◌}
-use lib.ListN.{length, drop, drop_of_length-le}
-use borrow.Author.Tests.{le-leb, lt-leb}
-use borrow.Author.Rules.{rules}
+use Rattle.std.proofs.Common.{◌≤◌, ◌-◌, ◌≡◌}
+use lib.ListN.{length, drop}
 use Rattle.bitmap.specs.Operations.{outside}
-use Rattle.bitmap_lists.proofs.Lists.{outside-at}
 use Rattle.bitmap_lists.proofs.has_outside.Given as goal
 
 abbrev pub invariant-loop-k : goal.invariant-loop-k

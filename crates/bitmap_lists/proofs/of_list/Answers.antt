@@ -1,11 +1,7 @@
 -- The loop's invariant: the set has the first k ids of the list.
-use Rattle.std.proofs.Common.{◌≤◌, ◌-◌}
-use Rattle.std.proofs.Common.{refl, ◌≡◌, ◌∙◌}
-use Rattle.std.proofs.Common.{arith}
-use lib.ListN.{length, take}
-use lib.Seq.{take_all}
+use Rattle.std.proofs.Common.{◌-◌, refl}
+use lib.ListN.{take}
 use borrow.Author.Rules.{rules}
-use Rattle.bitmap.specs.Bitmaps.{bitmap_where}
 use Rattle.bitmap.specs.Operations.{listed}
 use Rattle.bitmap_lists.proofs.Lists.{put_next}
 use Rattle.bitmap.proofs.Laws.{ids_where-empty}

@@ -1,10 +1,5 @@
 -- The refusals in order, then what `write_ones` leaves in the slice.
-use Rattle.std.proofs.Common.{◌≤◌}
 use Rattle.std.proofs.Common.{arith}
-use lib.ListN.{length}
-use borrow.Author.Tests.{le-ltb, lt-ltb}
-use borrow.Author.Rules.{rules}
-use Rattle.bitmap.specs.Sets.{count_where}
 use Rattle.bitmap.proofs.Sets.{count_where-le}
 use Rattle.bitmap.specs.Bitmaps.{is_one}
 use Rattle.bitmap.proofs.Bitmaps.{size-le}

@@ -1,5 +1,5 @@
 -- The loop's invariant: the ones below i are laid over the slice from its start, and `at` is how many they are.
-use Rattle.std.proofs.Common.{rules, Bool, ℕ, ◌+◌, ◌≤◌, ◌≡◌, ◌∙◌, arith, length}
+use Rattle.std.proofs.Common.{rules, Bool, ℕ, ◌+◌, ◌≤◌, ◌∙◌, arith, length}
 use Rattle.bitmap.specs.Sets.{one, count_where}
 use Rattle.bitmap.proofs.Sets.{count_where-more}
 use Rattle.bitmap.specs.Bitmaps.{is_one}

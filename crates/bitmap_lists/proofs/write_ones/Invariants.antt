@@ -1,15 +1,9 @@
 -- The loop's invariant: the ones below i are laid over the slice from its start, and `at` is how many they are.
-use Rattle.std.proofs.Common.{◌+◌, ◌≤◌, ◌-◌}
-use Rattle.std.proofs.Common.{◌≡◌, ◌∙◌}
-use Rattle.std.proofs.Common.{arith}
+use Rattle.std.proofs.Common.{◌≤◌, ◌-◌, ◌≡◌}
 use lib.ListN.{length}
-use borrow.Author.Rules.{rules}
-use Rattle.bitmap.specs.Sets.{one, count_where}
-use Rattle.bitmap.proofs.Sets.{count_where-more}
+use Rattle.bitmap.specs.Sets.{count_where}
 use Rattle.bitmap.specs.Bitmaps.{is_one}
 use Rattle.bitmap.specs.Operations.{ids_below, laid_over}
-use Rattle.bitmap.proofs.Laws.{count_where-mono}
-use Rattle.bitmap_lists.proofs.Lists.{laid_more}
 use Rattle.bitmap_lists.proofs.write_ones.Given as goal
 
 abbrev pub invariant-loop-i : goal.invariant-loop-i

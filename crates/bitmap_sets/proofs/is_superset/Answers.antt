@@ -1,5 +1,4 @@
 -- The refusals, then whether the count of the missing ids is 0.
-use borrow.Author.Rules.{rules}
 use Rattle.bitmap.proofs.Bitmaps.{size-le}
 use Rattle.bitmap_sets.proofs.is_superset.Goals as goal
 

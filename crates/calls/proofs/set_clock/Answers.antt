@@ -1,6 +1,5 @@
 -- What is left of `calls::set_clock`.
 use Rattle.lease.specs.Calls.{set_drift}
-use borrow.Author.Rules.{rules}
 use Rattle.calls.proofs.set_clock.Goals as goal
 
 pub returns : goal.returns

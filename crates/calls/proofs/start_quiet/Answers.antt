@@ -1,6 +1,5 @@
 -- What is left of `calls::start_quiet`.
 use Rattle.lease.specs.Calls.{assume_unknown_grants}
-use borrow.Author.Rules.{rules}
 use Rattle.calls.proofs.start_quiet.Goals as goal
 
 pub returns : goal.returns

@@ -1,5 +1,4 @@
 -- What is left of `card_events::card_of`.
-use borrow.Author.Rules.{rules}
 use Rattle.card_events.specs.Events.{card_of}
 use Rattle.card_events.proofs.card_of.Goals as goal
 

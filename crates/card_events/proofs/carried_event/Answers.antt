@@ -1,5 +1,4 @@
 -- What is left of `card_events::carried_event`.
-use borrow.Author.Rules.{rules}
 use Rattle.card_events.specs.Events.{carried_event}
 use Rattle.card_events.proofs.carried_event.Goals as goal
 

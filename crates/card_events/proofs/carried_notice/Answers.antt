@@ -1,5 +1,4 @@
 -- What is left of `card_events::carried_notice`.
-use borrow.Author.Rules.{rules}
 use Rattle.card_events.specs.Events.{carried_notice}
 use Rattle.card_events.proofs.carried_notice.Goals as goal
 

@@ -1,6 +1,5 @@
 -- What is left of `card_events::carried_set`.
 use borrow.Author.Tests.{eq-eqb, ne_eqb}
-use borrow.Author.Rules.{rules}
 use Rattle.card_events.specs.Events.{carried_set}
 use Rattle.card_events.proofs.carried_set.Goals as goal
 

@@ -1,6 +1,5 @@
 -- What is left of `card_events::event_of`.
 use borrow.Author.Tests.{eq-eqb, ne_eqb}
-use borrow.Author.Rules.{rules}
 use Rattle.card_events.specs.Events.{event_of}
 use Rattle.card_events.proofs.event_of.Goals as goal
 

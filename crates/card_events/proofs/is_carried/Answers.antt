@@ -1,6 +1,5 @@
 -- What is left of `card_events::is_carried`.
-use borrow.Author.Tests.{le-leb, lt-leb, not-true, not-false}
-use borrow.Author.Rules.{rules}
+use borrow.Author.Tests.{le-leb, lt-leb}
 use Rattle.card_events.specs.Events.{is_carried}
 use Rattle.card_events.proofs.is_carried.Goals as goal
 

@@ -1,6 +1,4 @@
 -- What is left of `card_events::is_do_revoke`.
-use borrow.Author.Tests.{not-true, not-false}
-use borrow.Author.Rules.{rules}
 use Rattle.card_events.specs.Events.{is_do_revoke}
 use Rattle.card_events.proofs.is_do_revoke.Goals as goal
 

@@ -1,6 +1,5 @@
 -- What is left of `card_events::is_new_grants`.
-use borrow.Author.Tests.{eq-eqb, ne_eqb, not-true, not-false}
-use borrow.Author.Rules.{rules}
+use borrow.Author.Tests.{eq-eqb, ne_eqb}
 use Rattle.card_events.specs.Events.{is_new_grants}
 use Rattle.card_events.proofs.is_new_grants.Goals as goal
 

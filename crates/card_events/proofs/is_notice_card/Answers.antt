@@ -1,6 +1,5 @@
 -- What is left of `card_events::is_notice_card`.
 use borrow.Author.Tests.{eq-eqb, ne_eqb}
-use borrow.Author.Rules.{rules}
 use Rattle.card_events.specs.Events.{is_notice_card}
 use Rattle.card_events.proofs.is_notice_card.Goals as goal
 

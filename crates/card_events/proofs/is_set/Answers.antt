@@ -2,7 +2,6 @@
 use Rattle.std.proofs.Common.{◌<◌, ◌^◌, arith}
 use native.Mathlib.Nat.{div-eq_of_lt}
 use borrow.Author.Tests.{le-leb, lt-leb}
-use borrow.Author.Rules.{rules}
 use Rattle.card_events.specs.Events.{is_set}
 use Rattle.card_events.proofs.is_set.Goals as goal
 

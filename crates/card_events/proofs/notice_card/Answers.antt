@@ -1,5 +1,4 @@
 -- What is left of `card_events::notice_card`.
-use borrow.Author.Rules.{rules}
 use Rattle.card_events.specs.Events.{notice_card}
 use Rattle.card_events.proofs.notice_card.Goals as goal
 

@@ -1,5 +1,4 @@
 -- What is left of `card_sessions::blank_session`.
-use borrow.Author.Rules.{rules}
 use Rattle.card_sessions.specs.Sessions.{blank_session}
 use Rattle.card_sessions.proofs.blank_session.Goals as goal
 

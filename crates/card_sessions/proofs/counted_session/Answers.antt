@@ -1,5 +1,4 @@
 -- What is left of `card_sessions::counted_session`.
-use borrow.Author.Rules.{rules}
 use Rattle.card_sessions.specs.Sessions.{counted}
 use Rattle.card_sessions.proofs.counted_session.Goals as goal
 

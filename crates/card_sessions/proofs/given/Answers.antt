@@ -1,5 +1,4 @@
 -- What is left of `card_sessions::given`.
-use borrow.Author.Rules.{rules}
 use Rattle.card_sessions.specs.Sessions.{given_by}
 use Rattle.card_sessions.proofs.given.Goals as goal
 

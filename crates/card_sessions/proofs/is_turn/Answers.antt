@@ -1,5 +1,4 @@
 -- What is left of `card_sessions::is_turn`.
-use borrow.Author.Rules.{rules}
 use Rattle.card_sessions.specs.Sessions.{is_turn}
 use Rattle.card_sessions.proofs.is_turn.Goals as goal
 

@@ -1,5 +1,4 @@
 -- What is left of `card_sessions::refused_card`.
-use borrow.Author.Rules.{rules}
 use Rattle.card_sessions.specs.Sessions.{refused_card}
 use Rattle.card_sessions.proofs.refused_card.Goals as goal
 

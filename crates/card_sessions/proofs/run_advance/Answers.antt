@@ -1,5 +1,4 @@
 -- What is left of `card_sessions::run_advance`.
-use borrow.Author.Rules.{rules}
 use Rattle.card_sessions.specs.Sessions.{advance_given}
 use Rattle.card_sessions.proofs.run_advance.Goals as goal
 

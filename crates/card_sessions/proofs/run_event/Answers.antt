@@ -1,5 +1,4 @@
 -- What is left of `card_sessions::run_event`.
-use borrow.Author.Rules.{rules}
 use Rattle.card_sessions.specs.Sessions.{event_given}
 use Rattle.card_sessions.proofs.run_event.Goals as goal
 

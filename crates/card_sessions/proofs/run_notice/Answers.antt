@@ -1,5 +1,4 @@
 -- What is left of `card_sessions::run_notice`.
-use borrow.Author.Rules.{rules}
 use Rattle.card_sessions.specs.Sessions.{notice_given}
 use Rattle.card_sessions.proofs.run_notice.Goals as goal
 

@@ -1,5 +1,4 @@
 -- What is left of `card_sessions::run_set_up`.
-use borrow.Author.Rules.{rules}
 use Rattle.card_sessions.specs.Sessions.{set_up_given}
 use Rattle.card_sessions.proofs.run_set_up.Goals as goal
 

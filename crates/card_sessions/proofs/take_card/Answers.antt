@@ -1,5 +1,4 @@
 -- What is left of `card_sessions::take_card`.
-use borrow.Author.Rules.{rules}
 use Rattle.card_sessions.specs.Sessions.{card_given}
 use Rattle.card_sessions.proofs.take_card.Goals as goal
 

@@ -1,9 +1,4 @@
 -- What is left of `cards::put_card`.
-use Rattle.std.proofs.Common.{ap, ◌∙◌}
-use lib.ListN.{length}
-use lib.Seq.{length-sets}
-use borrow.Author.Rules.{rules}
-use Rattle.cards.specs.Cards.{card_line}
 use Rattle.cards.proofs.Lines.{card-laid}
 use Rattle.cards.proofs.put_card.Goals as goal
 

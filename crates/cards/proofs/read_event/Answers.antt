@@ -1,5 +1,4 @@
 -- What is left of `cards::read_event`.
-use borrow.Author.Rules.{rules}
 use Rattle.cards.specs.Cards.{event_read}
 use Rattle.cards.proofs.read_event.Goals as goal
 

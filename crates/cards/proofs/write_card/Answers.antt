@@ -1,5 +1,5 @@
 -- What is left of `cards::write_card`.
-use borrow.Author.Tests.{le-leb, lt-leb, not-true, not-false}
+use borrow.Author.Tests.{le-leb, lt-leb}
 use borrow.Author.Rules.{rules}
 use Rattle.cards.specs.Cards.{can_write}
 use Rattle.cards.proofs.write_card.Goals as goal

@@ -3,7 +3,6 @@ use Rattle.std.proofs.Common.{sym, ◌∙◌}
 use Rattle.calls.proofs.Laws.{fits}
 use Rattle.lease.specs.Rules.{advance_of}
 use borrow.Author.Tests.{eq-eqb, ne_eqb}
-use borrow.Author.Rules.{rules}
 use Rattle.clock_calls.proofs.advance.Goals as goal
 
 pub advance_to-requires : goal.advance_to-requires

@@ -1,6 +1,5 @@
 -- What is left of `clock_calls::set_drift`.
 use Rattle.lease.specs.Rules.{drift_of}
-use borrow.Author.Rules.{rules}
 use Rattle.clock_calls.proofs.set_drift.Goals as goal
 
 pub returns-then-valid : goal.returns-then-valid

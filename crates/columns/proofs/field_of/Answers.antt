@@ -1,11 +1,8 @@
 -- The loop's invariant: what is left, read from the present field on, is what the whole is read as.
-use Rattle.std.proofs.Common.{◌≤◌, ◌-◌}
-use Rattle.std.proofs.Common.{sym, ◌≡◌, ◌∙◌}
+use Rattle.std.proofs.Common.{◌-◌, sym, ◌≡◌, ◌∙◌, arith}
 use native.Mathlib.Numerals.{add-one}
-use Rattle.std.proofs.Common.{arith}
-use lib.Seq.{slice, slice-cons, slice_empty}
+use lib.Seq.{slice-cons, slice_empty}
 use borrow.Author.Rules.{rules}
-use Rattle.columns.specs.declared.Field.TheVariants as F
 use Rattle.columns.specs.Columns.{field_from}
 use Rattle.columns.proofs.field_of.Goals as goal
 

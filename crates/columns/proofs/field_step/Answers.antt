@@ -1,5 +1,4 @@
 -- What is left of `columns::field_step`.
-use borrow.Author.Rules.{rules}
 use Rattle.columns.specs.Columns.{field_step}
 use Rattle.columns.proofs.field_step.Goals as goal
 

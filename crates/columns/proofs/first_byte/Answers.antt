@@ -1,6 +1,5 @@
 -- What is left of `columns::first_byte`.
 use borrow.Author.Tests.{eq-eqb, ne_eqb, le-leb, lt-leb}
-use borrow.Author.Rules.{rules}
 use Rattle.columns.specs.Columns.{first_byte}
 use Rattle.columns.proofs.first_byte.Goals as goal
 

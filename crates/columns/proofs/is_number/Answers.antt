@@ -1,5 +1,4 @@
 -- What is left of `columns::is_number`.
-use borrow.Author.Rules.{rules}
 use Rattle.columns.specs.Columns.{is_number}
 use Rattle.columns.proofs.is_number.Goals as goal
 

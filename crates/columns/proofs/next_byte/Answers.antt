@@ -1,8 +1,6 @@
 -- What is left of `columns::next_byte`.
-use Rattle.std.proofs.Common.{◌+◌, ◌*◌, ◌-◌}
-use Rattle.std.proofs.Common.{arith}
+use Rattle.std.proofs.Common.{◌+◌, ◌*◌, ◌-◌, arith}
 use borrow.Author.Tests.{le-leb, lt-leb}
-use borrow.Author.Rules.{rules}
 use Rattle.columns.specs.Columns.{max_number, next_byte}
 use Rattle.columns.proofs.next_byte.Goals as goal
 

@@ -1,5 +1,4 @@
 -- What is left of `columns::number_in`.
-use borrow.Author.Rules.{rules}
 use Rattle.columns.specs.Columns.{number_in}
 use Rattle.columns.proofs.number_in.Goals as goal
 

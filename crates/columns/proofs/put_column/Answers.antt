@@ -1,8 +1,5 @@
 -- What is left of `columns::put_column`.
-use Rattle.std.proofs.Common.{◌<◌}
-use Rattle.std.proofs.Common.{◌≡◌}
-use Rattle.std.proofs.Common.{arith}
-use borrow.Author.Rules.{rules}
+use Rattle.std.proofs.Common.{◌<◌, ◌≡◌, arith}
 use Rattle.columns.specs.Columns.{column}
 use Rattle.columns.proofs.Text.{sets-column}
 use Rattle.columns.proofs.put_column.Goals as goal

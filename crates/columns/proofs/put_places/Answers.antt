@@ -1,9 +1,5 @@
 -- The loop's invariant: the places that are left, put into what stands there now, make the whole.
-use Rattle.std.proofs.Common.{◌≤◌, ◌<◌}
-use Rattle.std.proofs.Common.{sym, ◌≡◌, ◌∙◌}
-use Rattle.std.proofs.Common.{arith}
-use lib.ListN.{length}
-use lib.Seq.{sets}
+use Rattle.std.proofs.Common.{◌<◌, sym, ◌≡◌, ◌∙◌, arith}
 use borrow.Author.Rules.{rules}
 use Rattle.columns.specs.Columns.{places}
 use Rattle.columns.proofs.Text.{sets-places}

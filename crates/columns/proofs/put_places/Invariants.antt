@@ -1,12 +1,8 @@
 -- The loop's invariant: the places that are left, put into what stands there now, make the whole.
-use Rattle.std.proofs.Common.{◌≤◌, ◌<◌}
-use Rattle.std.proofs.Common.{sym, ◌≡◌, ◌∙◌}
-use Rattle.std.proofs.Common.{arith}
+use Rattle.std.proofs.Common.{◌≤◌, ◌≡◌}
 use lib.ListN.{length}
 use lib.Seq.{sets}
-use borrow.Author.Rules.{rules}
 use Rattle.columns.specs.Columns.{places}
-use Rattle.columns.proofs.Text.{sets-places}
 use Rattle.columns.proofs.put_places.Given as goal
 
 abbrev pub invariant-loop-k : goal.invariant-loop-k

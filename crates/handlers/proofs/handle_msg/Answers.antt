@@ -1,6 +1,5 @@
 -- `handlers::handle_msg` meets its contract, by cases on the message: each handler keeps its own.
 use Rattle.lease.specs.Handlers.{handle_msg}
-use borrow.Author.Rules.{rules}
 use Rattle.handlers.proofs.handle_msg.Goals as goal
 
 pub returns-in-Guard : goal.returns-in-Guard

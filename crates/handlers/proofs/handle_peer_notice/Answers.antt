@@ -1,6 +1,5 @@
 -- `handlers::handle_peer_notice` meets its contract, by cases on the notice.
 use Rattle.lease.specs.Handlers.{handle_peer_notice}
-use borrow.Author.Rules.{rules}
 use Rattle.handlers.proofs.handle_peer_notice.Goals as goal
 
 pub returns-in-RecvLeaseMsg : goal.returns-in-RecvLeaseMsg

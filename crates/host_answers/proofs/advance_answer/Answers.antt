@@ -1,5 +1,4 @@
 -- What is left of `host_answers::advance_answer`.
-use borrow.Author.Rules.{rules}
 use Rattle.host_answers.specs.Answers.{advance_answer}
 use Rattle.host_answers.proofs.advance_answer.Goals as goal
 

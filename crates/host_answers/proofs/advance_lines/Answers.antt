@@ -1,5 +1,4 @@
 -- What is left of `host_answers::advance_lines`.
-use borrow.Author.Rules.{rules}
 use Rattle.host_answers.specs.Answers.{advance_lines}
 use Rattle.host_answers.proofs.advance_lines.Goals as goal
 

@@ -1,5 +1,4 @@
 -- What is left of `host_answers::count_answer`.
-use borrow.Author.Rules.{rules}
 use Rattle.host_answers.specs.Answers.{count_answer}
 use Rattle.host_answers.proofs.count_answer.Goals as goal
 

@@ -1,5 +1,4 @@
 -- What is left of `host_answers::fired_answer`.
-use borrow.Author.Rules.{rules}
 use Rattle.host_answers.specs.Answers.{fired_answer}
 use Rattle.host_answers.proofs.fired_answer.Goals as goal
 

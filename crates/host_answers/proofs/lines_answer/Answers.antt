@@ -1,5 +1,4 @@
 -- What is left of `host_answers::lines_answer`.
-use borrow.Author.Rules.{rules}
 use Rattle.host_answers.specs.Answers.{lines_answer}
 use Rattle.host_answers.proofs.lines_answer.Goals as goal
 

@@ -1,5 +1,4 @@
 -- What is left of `host_answers::no_lines`.
-use borrow.Author.Rules.{rules}
 use Rattle.host_answers.specs.Answers.{no_lines}
 use Rattle.host_answers.proofs.no_lines.Goals as goal
 

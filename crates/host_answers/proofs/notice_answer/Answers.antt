@@ -1,5 +1,4 @@
 -- What is left of `host_answers::notice_answer`.
-use borrow.Author.Rules.{rules}
 use Rattle.host_answers.specs.Answers.{notice_answer}
 use Rattle.host_answers.proofs.notice_answer.Goals as goal
 

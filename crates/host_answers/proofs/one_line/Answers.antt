@@ -1,5 +1,4 @@
 -- What is left of `host_answers::one_line`.
-use borrow.Author.Rules.{rules}
 use Rattle.host_answers.specs.Answers.{one_line}
 use Rattle.host_answers.proofs.one_line.Goals as goal
 

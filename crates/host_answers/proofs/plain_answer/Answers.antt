@@ -1,5 +1,4 @@
 -- What is left of `host_answers::plain_answer`.
-use borrow.Author.Rules.{rules}
 use Rattle.host_answers.specs.Answers.{plain_answer}
 use Rattle.host_answers.proofs.plain_answer.Goals as goal
 

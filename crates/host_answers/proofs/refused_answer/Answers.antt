@@ -1,5 +1,4 @@
 -- What is left of `host_answers::refused_answer`.
-use borrow.Author.Rules.{rules}
 use Rattle.host_answers.specs.Answers.{refused_answer}
 use Rattle.host_answers.proofs.refused_answer.Goals as goal
 

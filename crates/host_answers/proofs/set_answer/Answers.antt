@@ -1,5 +1,4 @@
 -- What is left of `host_answers::set_answer`.
-use borrow.Author.Rules.{rules}
 use Rattle.host_answers.specs.Answers.{set_answer}
 use Rattle.host_answers.proofs.set_answer.Goals as goal
 

@@ -1,5 +1,4 @@
 -- What is left of `host_answers::setup_answer`.
-use borrow.Author.Rules.{rules}
 use Rattle.host_answers.specs.Answers.{setup_answer}
 use Rattle.host_answers.proofs.setup_answer.Goals as goal
 

@@ -1,5 +1,4 @@
 -- What is left of `host_answers::time_left_answer`.
-use borrow.Author.Rules.{rules}
 use Rattle.host_answers.specs.Answers.{time_left_answer}
 use Rattle.host_answers.proofs.time_left_answer.Goals as goal
 

@@ -1,5 +1,4 @@
 -- What is left of `host_answers::two_lines`.
-use borrow.Author.Rules.{rules}
 use Rattle.host_answers.specs.Answers.{two_lines}
 use Rattle.host_answers.proofs.two_lines.Goals as goal
 

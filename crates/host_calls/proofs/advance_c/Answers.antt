@@ -1,5 +1,4 @@
 -- What is left of `host_calls::advance_c`.
-use borrow.Author.Rules.{rules}
 use Rattle.host_rules.specs.Calls.{advance_c}
 use Rattle.host_calls.proofs.advance_c.Goals as goal
 

@@ -1,6 +1,5 @@
 -- What is left of `host_calls::left_by`.
 use borrow.Author.Tests.{eq-eqb, ne_eqb}
-use borrow.Author.Rules.{rules}
 use Rattle.host_rules.specs.Calls.{left}
 use Rattle.host_calls.proofs.left_by.Goals as goal
 

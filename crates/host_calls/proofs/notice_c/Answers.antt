@@ -1,5 +1,4 @@
 -- What is left of `host_calls::notice_c`.
-use borrow.Author.Rules.{rules}
 use Rattle.host_rules.specs.Calls.{notice_c}
 use Rattle.host_calls.proofs.notice_c.Goals as goal
 

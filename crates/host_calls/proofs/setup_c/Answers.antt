@@ -1,5 +1,4 @@
 -- What is left of `host_calls::setup_c`.
-use borrow.Author.Rules.{rules}
 use Rattle.host_rules.specs.Calls.{setup_c}
 use Rattle.host_calls.proofs.setup_c.Goals as goal
 

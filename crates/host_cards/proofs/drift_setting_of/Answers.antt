@@ -4,7 +4,6 @@ use mir.Syntax.{w8}
 use mir.ValLaws.{to_z-of_z}
 use Rattle.lease.specs.declared.DriftSetting.TheVariants.{True, Drifting}
 use borrow.Author.Tests.{eq-eqb, ne_eqb}
-use borrow.Author.Rules.{rules}
 use Rattle.host_cards.specs.Cards.{percent_of, drift_setting_of}
 use Rattle.host_cards.proofs.drift_setting_of.Goals as goal
 

@@ -1,6 +1,5 @@
 -- What is left of `host_cards::is_call`.
 use borrow.Author.Tests.{eq-eqb, ne_eqb}
-use borrow.Author.Rules.{rules}
 use Rattle.host_cards.specs.Cards.{is_call}
 use Rattle.host_cards.proofs.is_call.Goals as goal
 

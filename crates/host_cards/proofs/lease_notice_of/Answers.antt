@@ -1,6 +1,5 @@
 -- What is left of `host_cards::lease_notice_of`.
 use borrow.Author.Tests.{ne_eqb}
-use borrow.Author.Rules.{rules}
 use Rattle.host_cards.specs.Cards.{lease_notice_of}
 use Rattle.host_cards.proofs.lease_notice_of.Goals as goal
 

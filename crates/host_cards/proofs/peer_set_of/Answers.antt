@@ -1,6 +1,5 @@
 -- What is left of `host_cards::peer_set_of`.
 use borrow.Author.Tests.{eq-eqb, ne_eqb}
-use borrow.Author.Rules.{rules}
 use Rattle.host_cards.specs.Cards.{peer_set_of}
 use Rattle.host_cards.proofs.peer_set_of.Goals as goal
 

@@ -1,10 +1,9 @@
 -- `host_cards::percent_of` meets its contract: nothing wraps, since the remainder is below 256.
-use Rattle.std.proofs.Common.{sym, ap, ◌∙◌, subst, ◌%◌}
+use Rattle.std.proofs.Common.{ap, ◌∙◌, ◌%◌}
 use lib.IntN.{ℤ, sub_ℕ}
 use mir.Syntax.{w8}
-use mir.Val.{SFits, to_z, of_z}
+use mir.Val.{to_z, of_z}
 use mir.ValLaws.{to_z-of_z}
-use borrow.Author.Rules.{rules}
 use Rattle.host_cards.proofs.Percent as percent
 use Rattle.host_cards.specs.Cards.{percent_of}
 use Rattle.host_cards.proofs.percent_of.Goals as goal

@@ -1,5 +1,4 @@
 -- What is left of `host_flat::clock_quotient`.
-use borrow.Author.Rules.{rules}
 use Rattle.std.proofs.Common.{refl}
 use lib.Ieee.{of_bits, of_int, div}
 use Rattle.drift.specs.Drift.{ratio}

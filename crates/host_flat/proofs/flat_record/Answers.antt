@@ -1,5 +1,4 @@
 -- What is left of `host_flat::flat_record`.
-use borrow.Author.Rules.{rules}
 use Rattle.host_record.specs.Flat.{flat_of}
 use Rattle.host_flat.proofs.flat_record.Goals as goal
 

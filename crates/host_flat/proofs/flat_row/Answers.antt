@@ -1,5 +1,4 @@
 -- What is left of `host_flat::flat_row`.
-use borrow.Author.Rules.{rules}
 use Rattle.host_record.specs.Flat.{flat_row}
 use Rattle.host_flat.proofs.flat_row.Goals as goal
 

@@ -1,6 +1,6 @@
 -- The invariant: the rows below i are done, and from i on there are blanks.
-use Rattle.std.proofs.Common.{◌≤◌, ◌-◌, ◌≡◌}
-use lib.ListN.{length, get_or, replicate}
+use Rattle.std.proofs.Common.{◌-◌, ◌≡◌}
+use lib.ListN.{replicate}
 use borrow.Author.Rules.{rules}
 use Rattle.lease.specs.Tables.{below}
 use Rattle.lease.proofs.Tables.{below_more}

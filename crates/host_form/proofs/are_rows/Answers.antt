@@ -1,9 +1,8 @@
 -- The invariant: the rows below i have been looked at.
-use Rattle.std.proofs.Common.{◌≤◌, ◌-◌, ◌≡◌}
-use lib.ListN.{length, take}
+use Rattle.std.proofs.Common.{◌-◌}
 use borrow.Author.Rules.{rules}
-use Rattle.host_record.specs.Managers.{is_row, all_of}
-use Rattle.host_record.proofs.Rows.{blank_row, all_none, all_more, all_whole}
+use Rattle.host_record.specs.Managers.{is_row}
+use Rattle.host_record.proofs.Rows.{blank_row, all_none, all_more}
 use Rattle.host_form.proofs.are_rows.Goals as goal
 
 pub loop-i-init : goal.loop-i-init

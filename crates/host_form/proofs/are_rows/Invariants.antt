@@ -1,9 +1,7 @@
 -- The invariant: the rows below i have been looked at.
 use Rattle.std.proofs.Common.{◌≤◌, ◌-◌, ◌≡◌}
 use lib.ListN.{length, take}
-use borrow.Author.Rules.{rules}
 use Rattle.host_record.specs.Managers.{is_row, all_of}
-use Rattle.host_record.proofs.Rows.{blank_row, all_none, all_more, all_whole}
 use Rattle.host_form.proofs.are_rows.Given as goal
 
 abbrev pub invariant-loop-i : goal.invariant-loop-i

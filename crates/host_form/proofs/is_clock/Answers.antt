@@ -1,6 +1,5 @@
 -- What is left of `host_form::is_clock`.
-use borrow.Author.Tests.{eq-eqb, ne_eqb}
-use borrow.Author.Rules.{rules}
+use borrow.Author.Tests.{eq-eqb}
 use Rattle.std.proofs.Common.{refl}
 use lib.Ieee.{of_bits, of_int, div}
 use Rattle.drift.specs.Drift.{ratio}

@@ -1,5 +1,4 @@
 -- What is left of `host_form::is_record`.
-use borrow.Author.Rules.{rules}
 use Rattle.host_record.specs.Managers.{is_record}
 use Rattle.host_form.proofs.is_record.Goals as goal
 

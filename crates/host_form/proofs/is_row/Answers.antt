@@ -1,5 +1,4 @@
 -- What is left of `host_form::is_row`.
-use borrow.Author.Rules.{rules}
 use Rattle.host_record.specs.Managers.{is_row}
 use Rattle.host_form.proofs.is_row.Goals as goal
 

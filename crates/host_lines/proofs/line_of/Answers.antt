@@ -1,5 +1,4 @@
 -- What is left of `host_lines::line_of`.
-use borrow.Author.Rules.{rules}
 use Rattle.host_lines.specs.Lines.{line_of}
 use Rattle.host_lines.proofs.line_of.Goals as goal
 

@@ -1,5 +1,4 @@
 -- What is left of `host_manager::manager_of`.
-use borrow.Author.Rules.{rules}
 use Rattle.host_record.specs.Managers.{manager_of}
 use Rattle.host_manager.proofs.manager_of.Goals as goal
 

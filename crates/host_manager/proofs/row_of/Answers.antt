@@ -1,5 +1,4 @@
 -- What is left of `host_manager::row_of`.
-use borrow.Author.Rules.{rules}
 use Rattle.host_record.specs.Managers.{row_of}
 use Rattle.host_manager.proofs.row_of.Goals as goal
 

@@ -1,12 +1,10 @@
 -- The invariant: the rows below i are done, and from i on there are blanks.
 use Rattle.std.proofs.Common.{◌≤◌, ◌-◌, ◌≡◌}
 use lib.ListN.{length, get_or, replicate}
-use borrow.Author.Rules.{rules}
 use Rattle.lease.specs.Tables.{below}
-use Rattle.lease.proofs.Tables.{below_more}
 use Rattle.lease.specs.Rows.{empty_row}
 use Rattle.host_record.specs.Managers.{row_of}
-use Rattle.host_record.proofs.Rows.{blank_row, below-map}
+use Rattle.host_record.proofs.Rows.{blank_row}
 use Rattle.host_manager.proofs.rows_of.Given as goal
 
 abbrev pub invariant-loop-i : goal.invariant-loop-i

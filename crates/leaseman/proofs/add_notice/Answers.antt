@@ -4,7 +4,6 @@ use Rattle.calls.proofs.Laws.{fits}
 use Rattle.notices.proofs.Laws.{notice-below}
 use Rattle.lease.specs.Rules.{notice_of}
 use borrow.Author.Tests.{eq-eqb, ne_eqb}
-use borrow.Author.Rules.{rules}
 use Rattle.leaseman.proofs.add_notice.Goals as goal
 
 pub run-a-requires : goal.run-a-requires

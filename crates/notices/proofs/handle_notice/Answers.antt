@@ -1,6 +1,5 @@
 -- `notices::handle_notice` meets its contract, by cases on the notice: each handler keeps its own.
 use Rattle.lease.specs.Notices.{handle_notice}
-use borrow.Author.Rules.{rules}
 use Rattle.notices.proofs.handle_notice.Goals as goal
 
 pub returns-in-NewGrants : goal.returns-in-NewGrants

@@ -1,7 +1,6 @@
 -- `notices::run` meets its contract, by how the number compares with the active one. A raised record fits where the record did.
 use Rattle.lease.specs.Notices.{raised_to, accepted_of}
 use borrow.Author.Tests.{le-leb, le-ltb, lt-leb, lt-ltb}
-use borrow.Author.Rules.{rules}
 use Rattle.notices.proofs.run.Goals as goal
 
 pub returns-then-num-active_num : goal.returns-then-num-active_num

@@ -1,6 +1,5 @@
 -- The row of the peer is in range, since its id is below the population.
 use Rattle.lease.specs.Notices.{on_peer}
-use borrow.Author.Rules.{rules}
 use Rattle.peer_notices.proofs.on_peer.Goals as goal
 
 pub returns : goal.returns

@@ -2,7 +2,6 @@
 use Rattle.std.proofs.Common.{sym, ◌∙◌}
 use Rattle.calls.proofs.Laws.{fits}
 use Rattle.lease.specs.Rules.{grant_set_of}
-use borrow.Author.Rules.{rules}
 use Rattle.questions.proofs.grant_set.Goals as goal
 
 pub granted_ids-requires : goal.granted_ids-requires

@@ -2,7 +2,6 @@
 use Rattle.std.proofs.Common.{sym, ◌∙◌}
 use Rattle.calls.proofs.Laws.{fits}
 use Rattle.lease.specs.Rules.{lease_cnt_of}
-use borrow.Author.Rules.{rules}
 use Rattle.questions.proofs.lease_cnt.Goals as goal
 
 pub leased_count-requires : goal.leased_count-requires

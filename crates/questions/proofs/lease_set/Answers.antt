@@ -2,7 +2,6 @@
 use Rattle.std.proofs.Common.{sym, ◌∙◌}
 use Rattle.calls.proofs.Laws.{fits}
 use Rattle.lease.specs.Rules.{lease_set_of}
-use borrow.Author.Rules.{rules}
 use Rattle.questions.proofs.lease_set.Goals as goal
 
 pub leased_ids-requires : goal.leased_ids-requires

@@ -4,7 +4,6 @@ use Rattle.calls.proofs.Laws.{fits}
 use Rattle.lease.proofs.Judged.{peer-below}
 use Rattle.lease.specs.Rules.{time_left_of}
 use borrow.Author.Tests.{eq-eqb, ne_eqb}
-use borrow.Author.Rules.{rules}
 use Rattle.questions.proofs.time_left.Goals as goal
 
 pub left_of-requires : goal.left_of-requires

@@ -1,6 +1,5 @@
 -- What is left of `record_check::are_valid_limits`.
 use Rattle.lease.specs.RecordCheck.{limits_valid}
-use borrow.Author.Rules.{rules}
 use Rattle.record_check.proofs.are_valid_limits.Goals as goal
 
 pub returns : goal.returns

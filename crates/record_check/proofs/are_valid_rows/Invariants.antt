@@ -1,8 +1,6 @@
 -- The invariant: the rows below i have been looked at.
 use Rattle.std.proofs.Common.{◌≤◌, ◌-◌, ◌≡◌}
 use lib.ListN.{length}
-use native.Mathlib.Numerals.{add-one}
-use borrow.Author.Rules.{rules}
 use Rattle.bitmap.specs.Bitmaps.{capacity}
 use Rattle.lease.specs.RecordCheck.{rows_valid}
 use Rattle.record_check.proofs.are_valid_rows.Given as goal

@@ -1,6 +1,5 @@
 -- `record_check::is_valid_record` meets its contract, from its four parts.
 use Rattle.lease.specs.RecordCheck.{record_valid}
-use borrow.Author.Rules.{rules}
 use Rattle.record_check.proofs.is_valid_record.Goals as goal
 
 pub returns : goal.returns

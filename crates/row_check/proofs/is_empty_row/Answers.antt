@@ -1,6 +1,5 @@
 -- What is left of `row_check::is_empty_row`.
 use Rattle.lease.specs.RecordCheck.{row_empty}
-use borrow.Author.Rules.{rules}
 use Rattle.row_check.proofs.is_empty_row.Goals as goal
 
 pub returns-then-row : goal.returns-then-row

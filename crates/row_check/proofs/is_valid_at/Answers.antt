@@ -1,7 +1,6 @@
 -- What is left of `row_check::is_valid_at`.
 use borrow.Author.Tests.{le-ltb, lt-ltb, eq-eqb, ne_eqb}
 use Rattle.lease.specs.RecordCheck.{row_valid_at}
-use borrow.Author.Rules.{rules}
 use Rattle.row_check.proofs.is_valid_at.Goals as goal
 
 pub returns-then-i-own : goal.returns-then-i-own

@@ -1,6 +1,5 @@
 -- What is left of `row_check::is_valid_row`.
 use Rattle.lease.specs.RecordCheck.{row_valid}
-use borrow.Author.Rules.{rules}
 use Rattle.row_check.proofs.is_valid_row.Goals as goal
 
 pub returns : goal.returns

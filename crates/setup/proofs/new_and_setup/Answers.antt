@@ -1,7 +1,6 @@
 -- `setup::new_and_setup` meets its contract, by whether a refusal applies.
 use Rattle.lease.specs.SetUp.{setup_of}
 use borrow.Author.Tests.{eq-eqb, ne_eqb}
-use borrow.Author.Rules.{rules}
 use Rattle.setup.proofs.new_and_setup.Goals as goal
 
 pub returns-then-code-eq0 : goal.returns-then-code-eq0
