@@ -9,6 +9,8 @@
 use bitmap::{Bitmap, BitmapAnswer, CountAnswer, FlagAnswer};
 use example_answers::{count, flag, mix, refused, set};
 use example_script::{Counts, copy_saying, judge, letter, word, write_counts};
+use std::io;
+use std::io::{BufReader, BufWriter, Read, Write};
 
 // More lines than the file has.
 const TURNS: u64 = 1000;
@@ -34,56 +36,60 @@ fn count_of(a: CountAnswer) -> u64 {
     }
 }
 
-fn read_set() -> Bitmap {
-    let size = letter();
-    Bitmap { size, bits: word() }
+fn read_set(input: &mut impl Read) -> io::Result<Bitmap> {
+    let size = letter(input)?;
+    Ok(Bitmap {
+        size,
+        bits: word(input)?,
+    })
 }
 
-fn read_flag() -> bool {
-    word() == 1
+fn read_flag(input: &mut impl Read) -> io::Result<bool> {
+    Ok(word(input)? == 1)
 }
 
 // A call on one set and an id.
-fn with_id(first: u8) -> u64 {
-    let b = read_set();
-    let id = word() as usize;
+fn with_id(first: u8, input: &mut impl Read) -> io::Result<u64> {
+    let b = read_set(input)?;
+    let id = word(input)? as usize;
     if first == b'g' {
-        return flag_of(bitmap_calls::get(b, id));
+        return Ok(flag_of(bitmap_calls::get(b, id)));
     }
-    set_of(bitmap_calls::set(b, id, read_flag()))
+    Ok(set_of(bitmap_calls::set(b, id, read_flag(input)?)))
 }
 
 // A call on one set.
-fn one_set(first: u8) -> u64 {
-    let b = read_set();
-    match first {
+fn one_set(first: u8, input: &mut impl Read) -> io::Result<u64> {
+    let b = read_set(input)?;
+    Ok(match first {
         b'z' => count_of(bitmap_calls::size(b)),
         b'k' => count_of(bitmap_calls::count(b)),
         b'f' => set_of(bitmap_sets::flip(b)),
         _ => set_of(bitmap_sets::clear(b)),
-    }
+    })
 }
 
 // A call on two sets.
-fn two_sets(first: u8) -> u64 {
-    let b = read_set();
-    let other = read_set();
+fn two_sets(first: u8, input: &mut impl Read) -> io::Result<u64> {
+    let b = read_set(input)?;
+    let other = read_set(input)?;
     if first == b'u' {
-        return set_of(bitmap_sets::union(b, other));
+        return Ok(set_of(bitmap_sets::union(b, other)));
     }
-    flag_of(bitmap_sets::is_superset(b, other))
+    Ok(flag_of(bitmap_sets::is_superset(b, other)))
 }
 
-fn range() -> u64 {
-    let size = letter();
-    let start = word() as usize;
-    set_of(bitmap_sets::from_range(size, start, word() as usize))
+fn range(input: &mut impl Read) -> io::Result<u64> {
+    let size = letter(input)?;
+    let start = word(input)? as usize;
+    let end = word(input)? as usize;
+    Ok(set_of(bitmap_sets::from_range(size, start, end)))
 }
 
-fn list() -> u64 {
-    let size = letter();
-    let ids = [letter(), letter(), letter()];
-    set_of(bitmap_lists::from_ids(size, &ids))
+fn list(input: &mut impl Read) -> io::Result<u64> {
+    let size = letter(input)?;
+    let ids = [letter(input)?, letter(input)?, letter(input)?];
+    Ok(set_of(bitmap_lists::from_ids(size, &ids)))
 }
 
 // The answer, then all four bytes: those past the ids keep their contents, on a refusal every byte does.
@@ -92,58 +98,62 @@ fn with_bytes(answer: u64, bytes: [u8; 4]) -> u64 {
     mix(mix(two, bytes[2] as u64), bytes[3] as u64)
 }
 
-fn ones() -> u64 {
+fn ones(input: &mut impl Read) -> io::Result<u64> {
     let mut bytes = [255u8; 4];
-    let answer = count_of(bitmap_lists::ones(read_set(), &mut bytes));
-    with_bytes(answer, bytes)
+    let answer = count_of(bitmap_lists::ones(read_set(input)?, &mut bytes));
+    Ok(with_bytes(answer, bytes))
 }
 
-fn ones_into_one() -> u64 {
+fn ones_into_one(input: &mut impl Read) -> io::Result<u64> {
     let mut bytes = [255u8; 4];
-    let answer = count_of(bitmap_lists::ones(read_set(), &mut bytes[..1]));
-    with_bytes(answer, bytes)
+    let answer = count_of(bitmap_lists::ones(read_set(input)?, &mut bytes[..1]));
+    Ok(with_bytes(answer, bytes))
 }
 
-fn slices(first: u8) -> u64 {
+fn slices(first: u8, input: &mut impl Read) -> io::Result<u64> {
     match first {
-        b'r' => range(),
-        b'l' => list(),
-        b'o' => ones(),
-        _ => ones_into_one(),
+        b'r' => range(input),
+        b'l' => list(input),
+        b'o' => ones(input),
+        _ => ones_into_one(input),
     }
 }
 
 // The call of a line, and its answer as a number.
-fn call() -> u64 {
-    let first = letter();
+fn call(input: &mut impl Read) -> io::Result<u64> {
+    let first = letter(input)?;
     match first {
         b'n' => {
-            let size = letter();
-            set_of(bitmap_calls::new(size, read_flag()))
+            let size = letter(input)?;
+            Ok(set_of(bitmap_calls::new(size, read_flag(input)?)))
         }
-        b's' => with_id(first),
-        b'g' => with_id(first),
-        b'z' => one_set(first),
-        b'k' => one_set(first),
-        b'f' => one_set(first),
-        b'c' => one_set(first),
-        b'u' => two_sets(first),
-        b'p' => two_sets(first),
-        _ => slices(first),
+        b's' => with_id(first, input),
+        b'g' => with_id(first, input),
+        b'z' => one_set(first, input),
+        b'k' => one_set(first, input),
+        b'f' => one_set(first, input),
+        b'c' => one_set(first, input),
+        b'u' => two_sets(first, input),
+        b'p' => two_sets(first, input),
+        _ => slices(first, input),
     }
 }
 
 // A line: its call, and whether the answer is right.
-fn run_line(so_far: Counts) -> Counts {
-    judge(call(), so_far)
+fn run_line(so_far: Counts, input: &mut impl Read, output: &mut impl Write) -> io::Result<Counts> {
+    judge(call(input)?, so_far, input, output)
 }
 
-fn main() {
+fn main(rt: HostRuntime) -> io::Result<()> {
+    let mut input = BufReader::new(rt.alloc(), rt.reader())?;
+    let mut output = BufWriter::new(rt.alloc(), io::writer(&rt))?;
     let mut counts = Counts { right: 0, count: 0 };
-    let mut turns: u64 = TURNS;
-    while turns > 0 && copy_saying() {
-        counts = run_line(counts);
-        turns -= 1;
+    for _ in 0..TURNS {
+        if !copy_saying(&mut input, &mut output)? {
+            break;
+        }
+        counts = run_line(counts, &mut input, &mut output)?;
     }
-    write_counts(counts);
+    write_counts(counts, &mut output)?;
+    output.flush()
 }

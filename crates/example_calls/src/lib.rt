@@ -11,6 +11,8 @@ use lease::{
     AdvanceAnswer, AdvanceOutcome, DriftSetting, LeaseNum, Manager, NoticeAnswer, NoticeOutcome,
     PlainAnswer, PlainOutcome, QuietEnd, SetUpOutcome,
 };
+use std::io;
+use std::io::Read;
 use timer::Reading;
 
 #[derive(Clone, Copy)]
@@ -35,12 +37,12 @@ pub fn start() -> Done {
     set_up(0, 3, 1_000_000_000, 0, 0)
 }
 
-fn read_set_up() -> Done {
-    let me = word() as usize;
-    let n = word() as usize;
-    let t = word();
-    let heartbeat = word();
-    set_up(me, n, t, heartbeat, word())
+fn read_set_up(input: &mut impl Read) -> io::Result<Done> {
+    let me = word(input)? as usize;
+    let n = word(input)? as usize;
+    let t = word(input)?;
+    let heartbeat = word(input)?;
+    Ok(set_up(me, n, t, heartbeat, word(input)?))
 }
 
 pub fn noticed(a: NoticeAnswer) -> Done {
@@ -53,9 +55,9 @@ pub fn noticed(a: NoticeAnswer) -> Done {
     Done { manager, answer }
 }
 
-fn read_notice(m: Manager) -> Done {
-    let num = LeaseNum(word());
-    noticed(leaseman::add_notice(m, num, notice()))
+fn read_notice(m: Manager, input: &mut impl Read) -> io::Result<Done> {
+    let num = LeaseNum(word(input)?);
+    Ok(noticed(leaseman::add_notice(m, num, notice(input)?)))
 }
 
 fn fired(o: AdvanceOutcome) -> u64 {
@@ -88,28 +90,28 @@ fn plain(a: PlainAnswer) -> Done {
     Done { manager, answer }
 }
 
-fn refresh(m: Manager) -> Done {
-    let a = outer_calls::attempt_refresh(m, peer_set());
+fn refresh(m: Manager, input: &mut impl Read) -> io::Result<Done> {
+    let a = outer_calls::attempt_refresh(m, peer_set(input)?);
     let outcome = a.outcome;
     let manager = a.manager;
-    Done {
+    Ok(Done {
         manager,
         answer: set_of(outcome),
-    }
+    })
 }
 
 // The settings of the examples, those below 0 without their sign.
-fn percent() -> i8 {
-    match letter() {
+fn percent(input: &mut impl Read) -> io::Result<i8> {
+    Ok(match letter(input)? {
         25 => 25,
         50 => -50,
         100 => -100,
         _ => 127,
-    }
+    })
 }
 
-fn read_advance(m: Manager) -> Done {
-    advanced(clock_calls::advance(m, Reading(word())))
+fn read_advance(m: Manager, input: &mut impl Read) -> io::Result<Done> {
+    Ok(advanced(clock_calls::advance(m, Reading(word(input)?))))
 }
 
 fn set_drift(m: Manager, d: i8) -> Done {
@@ -121,20 +123,20 @@ fn start_quiet(m: Manager) -> Done {
 }
 
 // The other calls.
-fn perform_outer(m: Manager, letter: u8) -> Done {
+fn perform_outer(m: Manager, letter: u8, input: &mut impl Read) -> io::Result<Done> {
     match letter {
-        b'q' => start_quiet(m),
-        b'r' => refresh(m),
-        _ => set_drift(m, percent()),
+        b'q' => Ok(start_quiet(m)),
+        b'r' => refresh(m, input),
+        _ => Ok(set_drift(m, percent(input)?)),
     }
 }
 
 // The call of a line, on the record of the line before.
-pub fn perform(m: Manager, letter: u8) -> Done {
+pub fn perform(m: Manager, letter: u8, input: &mut impl Read) -> io::Result<Done> {
     match letter {
-        b's' => read_set_up(),
-        b'n' => read_notice(m),
-        b'a' => read_advance(m),
-        _ => perform_outer(m, letter),
+        b's' => read_set_up(input),
+        b'n' => read_notice(m, input),
+        b'a' => read_advance(m, input),
+        _ => perform_outer(m, letter, input),
     }
 }

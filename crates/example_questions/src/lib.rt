@@ -9,6 +9,8 @@
 use example_answers::{count, flag, left, mix, no_timer, none_left, refused, set_of, timer};
 use example_script::word;
 use lease::{CountOutcome, Entry, Grant, Manager, Peer, TimeLeft, TimeLeftOutcome};
+use std::io;
+use std::io::Read;
 
 fn count_of(o: CountOutcome) -> u64 {
     match o {
@@ -81,16 +83,17 @@ pub fn is_question(letter: u8) -> bool {
     }
 }
 
-pub fn ask(m: Manager, letter: u8) -> u64 {
-    match letter {
+// Reads the id that the question is about, if it is about one.
+pub fn ask(m: Manager, letter: u8, input: &mut impl Read) -> io::Result<u64> {
+    Ok(match letter {
         b'g' => set_of(questions::grant_set(m)),
         b'l' => set_of(questions::lease_set(m)),
         b'k' => count_of(questions::lease_cnt(m)),
-        b't' => time_left(questions::time_left(m, word() as usize)),
+        b't' => time_left(questions::time_left(m, word(input)? as usize)),
         b'v' => {
             let num = m.active_num;
             mix(0, num.0)
         }
-        _ => entry_of(row(m, word() as usize), letter),
-    }
+        _ => entry_of(row(m, word(input)? as usize), letter),
+    })
 }

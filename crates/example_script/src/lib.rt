@@ -1,4 +1,4 @@
-// Reads the text of the examples from standard input, a byte at a time. A line is
+// Reads the text of the examples, a byte at a time. A line is
 //     WHAT DOCUMENT 01 SAYS|CALL|ANSWER
 // The call and the answer are words between blanks: a word is a number, or one letter or sign, which
 // counts as its byte. A notice's letters stand in notices.rt, those of the calls in example_calls, those
@@ -9,6 +9,8 @@ mod notices;
 
 use example_answers::mix;
 pub use notices::{notice, peer_set};
+use std::io;
+use std::io::{Read, Write};
 use std::num::wrapping_add_u64;
 
 // More than any line has.
@@ -29,37 +31,37 @@ struct Part {
 }
 
 // The next byte; 0 where the text ends.
-fn byte() -> u8 {
-    let mut b = [0u8; 1];
-    let n = io::read_full(0, &mut b);
-    if n == 0 {
-        return 0;
+fn byte(input: &mut impl Read) -> io::Result<u8> {
+    match input.by_ref().bytes().next() {
+        None => Ok(0),
+        Some(next) => next,
     }
-    b[0]
 }
 
 // Writes the next byte of what document 01 says, but for the `|` after it; false where that or the end
 // of the text comes.
-fn copy_byte(c: u8) -> bool {
+fn copy_byte(c: u8, output: &mut impl Write) -> io::Result<bool> {
     if c == b'|' {
-        return false;
+        return Ok(false);
     }
     if c == 0 {
-        return false;
+        return Ok(false);
     }
-    io::write_all(1, &[c])
+    output.write_all(&[c])?;
+    Ok(true)
 }
 
 // Writes what document 01 says, and answers whether there was a line.
-pub fn copy_saying() -> bool {
-    let first = byte();
-    let mut turns: u64 = TURNS;
-    let mut going = copy_byte(first);
-    while turns > 0 && going {
-        going = copy_byte(byte());
-        turns -= 1;
+pub fn copy_saying(input: &mut impl Read, output: &mut impl Write) -> io::Result<bool> {
+    let first = byte(input)?;
+    let mut going = copy_byte(first, output)?;
+    for _ in 0..TURNS {
+        if !going {
+            break;
+        }
+        going = copy_byte(byte(input)?, output)?;
     }
-    first != 0
+    Ok(first != 0)
 }
 
 // What a byte ends: a word, and at a line's end or the text's the line too; 0 where it ends nothing.
@@ -82,91 +84,88 @@ fn lengthened(value: u64, c: u8) -> u64 {
     c as u64
 }
 
-fn read_byte(w: Part) -> Part {
-    let c = byte();
+fn read_byte(w: Part, input: &mut impl Read) -> io::Result<Part> {
+    let c = byte(input)?;
     let end = ending(c);
     if end == 0 {
-        return Part {
+        return Ok(Part {
             value: lengthened(w.value, c),
             end,
-        };
+        });
     }
-    Part {
+    Ok(Part {
         value: w.value,
         end,
-    }
+    })
 }
 
 // The next word, with what ended it.
-fn read_word() -> Part {
+fn read_word(input: &mut impl Read) -> io::Result<Part> {
     let mut w = Part { value: 0, end: 0 };
-    let mut turns: u64 = TURNS;
-    while turns > 0 && w.end == 0 {
-        w = read_byte(w);
-        turns -= 1;
+    for _ in 0..TURNS {
+        if w.end != 0 {
+            break;
+        }
+        w = read_byte(w, input)?;
     }
-    w
+    Ok(w)
 }
 
 // The next word of a call.
-pub fn word() -> u64 {
-    let w = read_word();
-    w.value
+pub fn word(input: &mut impl Read) -> io::Result<u64> {
+    let w = read_word(input)?;
+    Ok(w.value)
 }
 
 // The next word of a call, a letter or a number below 256.
-pub fn letter() -> u8 {
-    (word() % 256) as u8
+pub fn letter(input: &mut impl Read) -> io::Result<u8> {
+    Ok((word(input)? % 256) as u8)
 }
 
-fn next_word(so_far: Part) -> Part {
-    let w = read_word();
-    Part {
+fn next_word(so_far: Part, input: &mut impl Read) -> io::Result<Part> {
+    let w = read_word(input)?;
+    Ok(Part {
         value: mix(so_far.value, w.value),
         end: w.end,
-    }
+    })
 }
 
 // The answer of the line, all its words in one number.
-fn expected() -> u64 {
+fn expected(input: &mut impl Read) -> io::Result<u64> {
     let mut w = Part { value: 0, end: 0 };
-    let mut turns: u64 = TURNS;
-    while turns > 0 && w.end != b'\n' {
-        w = next_word(w);
-        turns -= 1;
+    for _ in 0..TURNS {
+        if w.end == b'\n' {
+            break;
+        }
+        w = next_word(w, input)?;
     }
-    w.value
-}
-
-fn text(t: &[u8]) {
-    let _written = io::write_all(1, t);
-}
-
-fn number(n: u64) {
-    let _written = io::print_decimal(1, n);
+    Ok(w.value)
 }
 
 // Writes whether the answer is the line's, and counts it.
-pub fn judge(got: u64, so_far: Counts) -> Counts {
+pub fn judge(
+    got: u64,
+    so_far: Counts,
+    input: &mut impl Read,
+    output: &mut impl Write,
+) -> io::Result<Counts> {
     let count = wrapping_add_u64(so_far.count, 1);
-    if expected() == got {
-        text(b": ok\n");
-        return Counts {
+    if expected(input)? == got {
+        output.write_all(b": ok\n")?;
+        return Ok(Counts {
             right: wrapping_add_u64(so_far.right, 1),
             count,
-        };
+        });
     }
-    text(b": WRONG\n");
-    Counts {
+    output.write_all(b": WRONG\n")?;
+    Ok(Counts {
         right: so_far.right,
         count,
-    }
+    })
 }
 
 // The last line of the output.
-pub fn write_counts(c: Counts) {
-    number(c.right);
-    text(b" of ");
-    number(c.count);
-    text(b" lines ok\n");
+pub fn write_counts(c: Counts, output: &mut impl Write) -> io::Result<()> {
+    let Counts { right, count } = c;
+    writeln!(output, "{right} of {count} lines ok")
 }

@@ -7,55 +7,57 @@
 use crate::{letter, word};
 use bitmap::Bitmap;
 use lease::{AcceptBar, Bar, LeaseMsg, LeaseNotice, PeerSet};
+use std::io;
+use std::io::Read;
 
-pub fn peer_set() -> PeerSet {
-    if letter() == b'a' {
-        return PeerSet::All;
+pub fn peer_set(input: &mut impl Read) -> io::Result<PeerSet> {
+    if letter(input)? == b'a' {
+        return Ok(PeerSet::All);
     }
-    let size = letter();
-    let bits = word();
-    PeerSet::Of(Bitmap { size, bits })
+    let size = letter(input)?;
+    let bits = word(input)?;
+    Ok(PeerSet::Of(Bitmap { size, bits }))
 }
 
-fn bar() -> AcceptBar {
-    if letter() == b'n' {
-        return AcceptBar::None;
+fn bar(input: &mut impl Read) -> io::Result<AcceptBar> {
+    if letter(input)? == b'n' {
+        return Ok(AcceptBar::None);
     }
-    AcceptBar::Some(Bar(word()))
+    Ok(AcceptBar::Some(Bar(word(input)?)))
 }
 
-fn flag() -> bool {
-    word() == 1
+fn flag(input: &mut impl Read) -> io::Result<bool> {
+    Ok(word(input)? == 1)
 }
 
-fn message() -> LeaseMsg {
-    match letter() {
-        b'g' => LeaseMsg::Guard(bar()),
+fn message(input: &mut impl Read) -> io::Result<LeaseMsg> {
+    Ok(match letter(input)? {
+        b'g' => LeaseMsg::Guard(bar(input)?),
         b'G' => LeaseMsg::GuardReply,
         b'p' => LeaseMsg::Promise,
-        b'P' => LeaseMsg::PromiseReply(flag()),
+        b'P' => LeaseMsg::PromiseReply(flag(input)?),
         b'r' => LeaseMsg::Revoke,
-        _ => LeaseMsg::RevokeReply(flag()),
-    }
+        _ => LeaseMsg::RevokeReply(flag(input)?),
+    })
 }
 
-fn new_grants() -> LeaseNotice {
-    let set = peer_set();
-    LeaseNotice::NewGrants(set, bar())
+fn new_grants(input: &mut impl Read) -> io::Result<LeaseNotice> {
+    let set = peer_set(input)?;
+    Ok(LeaseNotice::NewGrants(set, bar(input)?))
 }
 
-fn received() -> LeaseNotice {
-    let id = word() as usize;
-    LeaseNotice::RecvLeaseMsg(id, message())
+fn received(input: &mut impl Read) -> io::Result<LeaseNotice> {
+    let id = word(input)? as usize;
+    Ok(LeaseNotice::RecvLeaseMsg(id, message(input)?))
 }
 
-pub fn notice() -> LeaseNotice {
-    match letter() {
-        b'g' => new_grants(),
-        b'r' => LeaseNotice::DoRevoke(peer_set()),
+pub fn notice(input: &mut impl Read) -> io::Result<LeaseNotice> {
+    Ok(match letter(input)? {
+        b'g' => new_grants(input)?,
+        b'r' => LeaseNotice::DoRevoke(peer_set(input)?),
         b'c' => LeaseNotice::ClearHeld,
-        b'm' => received(),
-        b's' => LeaseNotice::GrantTimeout(word() as usize),
-        _ => LeaseNotice::LeaseTimeout(word() as usize),
-    }
+        b'm' => received(input)?,
+        b's' => LeaseNotice::GrantTimeout(word(input)? as usize),
+        _ => LeaseNotice::LeaseTimeout(word(input)? as usize),
+    })
 }

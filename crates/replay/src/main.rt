@@ -2,6 +2,6 @@
 // document 02's example.
 #![tactic(auto)]
 
-fn main() {
-    replay_filter::run();
+fn main(rt: HostRuntime) -> anyhow::Result<()> {
+    replay_filter::run(&rt)
 }

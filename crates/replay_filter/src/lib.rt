@@ -4,88 +4,91 @@
 
 ghost use Rattle.std.specs.Prelude.{◌≤◌, length};
 
+use anyhow::{Context, Result};
 use card_feed::{Replay, blank_replay, feed, finish};
-use libc::{STDIN_FILENO, STDOUT_FILENO};
+use std::io;
+use std::io::{Read, Write};
 
-// What a turn leaves: whether there may be more to read, whether all went well, and what is kept.
+// The most bytes that are read at once, the most that `feed` takes.
+const CHUNK: usize = 4096;
+
+// The room that `feed` asks for what a chunk gives.
+const ROOM: usize = 512_910;
+
+// What a turn leaves: whether there may be more to read, whether all that was read was taken, and what is kept.
 #[derive(Clone, Copy)]
 struct Moved {
     more: bool,
-    well: bool,
+    taken: bool,
     replay: Replay,
 }
 
 // Writes the first n bytes; says so where it fails.
-fn write_out(out: &[u8], n: usize) -> bool
+fn write_out(out: &[u8], n: usize, to: &mut impl Write) -> Result<()>
     requires { n ≤ length out.now }
 {
-    let is_written = io::write_all(STDOUT_FILENO, &out[..n]);
-    if !is_written {
-        os::fail(b"replay: standard output");
-    }
-    is_written
+    to.write_all(&out[..n]).context("replay: standard output")
 }
 
 // Feeds what was read, and writes what it gives.
-fn pass_on(r: Replay, read: &[u8], out: &mut [u8]) -> Moved {
+fn pass_on(r: Replay, read: &[u8], out: &mut [u8], to: &mut impl Write) -> Result<Moved> {
     let fed = feed(r, read, out);
-    let well = fed.taken && write_out(out, fed.written);
-    let replay = fed.replay;
-    Moved {
-        more: well,
-        well,
-        replay,
+    let taken = fed.taken;
+    if taken {
+        write_out(out, fed.written, to)?;
     }
+    Ok(Moved {
+        more: taken,
+        taken,
+        replay: fed.replay,
+    })
 }
 
-// Reads once.
-fn move_some(r: Replay, out: &mut [u8]) -> Moved {
-    let mut buf = io::buffer();
-    let got = libc::read(STDIN_FILENO, &mut buf);
-    if got < 0 {
-        os::fail(b"replay: standard input");
-        return Moved {
+// Reads once; says so where it fails.
+fn move_some(
+    r: Replay,
+    from: &mut impl Read,
+    out: &mut [u8],
+    to: &mut impl Write,
+) -> Result<Moved> {
+    let mut buf = [0u8; CHUNK];
+    let n = from.read(&mut buf).context("replay: standard input")?;
+    if n == 0 {
+        return Ok(Moved {
             more: false,
-            well: false,
+            taken: true,
             replay: r,
-        };
+        });
     }
-    if got == 0 {
-        return Moved {
-            more: false,
-            well: true,
-            replay: r,
-        };
-    }
-    let n = io::count(got, &buf);
-    pass_on(r, &buf[..n], out)
+    pass_on(r, &buf[..n], out, to)
 }
 
-// Reads to the end. A proved loop has to end, and nothing says that the input does: so the turns are counted down
-// from a number that no run uses up.
-fn move_all(out: &mut [u8]) -> Moved {
-    let replay = blank_replay();
+// Reads to the end. A proved loop has to end, and nothing says that the input does: so the turns are counted, up to a
+// number that no run uses up.
+fn move_all(from: &mut impl Read, out: &mut [u8], to: &mut impl Write) -> Result<Moved> {
     let mut m = Moved {
         more: true,
-        well: true,
-        replay,
+        taken: true,
+        replay: blank_replay(),
     };
-    let mut turns = u64::MAX;
-    while turns > 0 && m.more {
-        let before = m.replay;
-        m = move_some(before, out);
-        turns -= 1;
+    for _ in 0..u64::MAX {
+        if !m.more {
+            break;
+        }
+        m = move_some(m.replay, from, out, to)?;
     }
-    m
+    Ok(m)
 }
 
 // The program.
-pub fn run() {
-    let mut out = [0u8; 512_910];
-    let m = move_all(&mut out);
-    if m.well {
-        let replay = m.replay;
-        let n = finish(replay, &mut out);
-        write_out(&out, n);
+pub fn run(rt: &(impl Input + Print)) -> Result<()> {
+    let mut from = rt.reader();
+    let mut to = io::writer(rt);
+    let mut out = [0u8; ROOM];
+    let m = move_all(&mut from, &mut out, &mut to)?;
+    if m.taken {
+        let n = finish(m.replay, &mut out);
+        write_out(&out, n, &mut to)?;
     }
+    Ok(())
 }

@@ -2,6 +2,6 @@
 // can get. The file stdout is what the Rust answers to the cards of stdin (compare/run), and document 02's refusals.
 #![tactic(auto)]
 
-fn main() {
-    replay_filter::run();
+fn main(rt: HostRuntime) -> anyhow::Result<()> {
+    replay_filter::run(&rt)
 }

@@ -17,6 +17,8 @@ use host_record::{ManagerC, PeerC};
 use lease::FiredTimer;
 use sample_columns::{next_card, write_line};
 use setup::new_and_setup;
+use std::io;
+use std::io::{BufReader, BufWriter, Read, Write};
 use timer::Reading;
 
 // More calls than the file has.
@@ -69,126 +71,131 @@ fn deadline(guard: u64, promise: u64) -> u64 {
 }
 
 // Writes a row that has anything in it.
-fn write_row(i: usize, p: PeerC) {
+fn write_row(i: usize, p: PeerC, output: &mut impl Write) -> io::Result<()> {
     let mark = (p.refresh_mark % 2) as u64 * 100;
     let sent = sent_tag(p) % 10;
     let held = held_tag(p) % 100 * 10;
     let tag = mark + held + sent;
     if tag > 0 {
-        write_line(LineC {
-            code: 41,
-            number: tag,
-            peer: i as u64,
-            first: deadline(p.guard_sent_at, p.promise_sent_at),
-            second: deadline(p.guard_held_at, p.promise_held_at),
-        });
+        write_line(
+            LineC {
+                code: 41,
+                number: tag,
+                peer: i as u64,
+                first: deadline(p.guard_sent_at, p.promise_sent_at),
+                second: deadline(p.guard_held_at, p.promise_held_at),
+            },
+            output,
+        )?;
     }
+    Ok(())
 }
 
-fn write_rows(peers: [PeerC; 64]) {
-    let mut i: usize = 0;
-    while i < 64 {
-        let row = peers[i];
-        write_row(i, row);
-        i = i + 1;
+fn write_rows(peers: [PeerC; 64], output: &mut impl Write) -> io::Result<()> {
+    for (i, row) in peers.iter().enumerate() {
+        write_row(i, *row, output)?;
     }
+    Ok(())
 }
 
 // Writes the record that an accepted call left; a question leaves it as it was.
-fn write_record(code: u64, m: ManagerC) {
+fn write_record(code: u64, m: ManagerC, output: &mut impl Write) -> io::Result<()> {
     if code < 12 {
-        write_line(LineC {
-            code: 40,
-            number: m.active_num,
-            peer: 0,
-            first: m.now,
-            second: m.quiet_until,
-        });
-        let peers = m.peers;
-        write_rows(peers);
+        write_line(
+            LineC {
+                code: 40,
+                number: m.active_num,
+                peer: 0,
+                first: m.now,
+                second: m.quiet_until,
+            },
+            output,
+        )?;
+        write_rows(m.peers, output)?;
     }
+    Ok(())
 }
 
 // Writes the answer's lines.
-fn write_lines(a: AnswerC) {
-    let one = a.one;
-    let two = a.two;
-    let three = a.three;
+fn write_lines(a: AnswerC, output: &mut impl Write) -> io::Result<()> {
     if a.count > 0 {
-        write_line(one);
+        write_line(a.one, output)?;
     }
     if a.count > 1 {
-        write_line(two);
+        write_line(a.two, output)?;
     }
     if a.count > 2 {
-        write_line(three);
+        write_line(a.three, output)?;
     }
+    Ok(())
 }
 
 // Writes a fired timer.
-fn write_timer(t: FiredTimer) {
+fn write_timer(t: FiredTimer, output: &mut impl Write) -> io::Result<()> {
     let code = if t.held { 15 } else { 14 };
-    write_line(LineC {
-        code,
-        number: 0,
-        peer: t.id as u64,
-        first: 0,
-        second: 0,
-    });
+    write_line(
+        LineC {
+            code,
+            number: 0,
+            peer: t.id as u64,
+            first: 0,
+            second: 0,
+        },
+        output,
+    )
 }
 
 // Writes the timers that fired, in order.
-fn write_fired(count: usize, timers: [FiredTimer; 128]) {
-    let mut k: usize = 0;
-    while k < 128 && k < count {
-        let t = timers[k];
-        write_timer(t);
-        k = k + 1;
+fn write_fired(count: usize, timers: [FiredTimer; 128], output: &mut impl Write) -> io::Result<()> {
+    for timer in timers.iter().take(count) {
+        write_timer(*timer, output)?;
     }
+    Ok(())
 }
 
-fn write_refusal(k: u64) {
-    write_line(LineC {
-        code: 20,
-        number: 0,
-        peer: 0,
-        first: k,
-        second: 0,
-    });
+fn write_refusal(k: u64, output: &mut impl Write) -> io::Result<()> {
+    write_line(
+        LineC {
+            code: 20,
+            number: 0,
+            peer: 0,
+            first: k,
+            second: 0,
+        },
+        output,
+    )
 }
 
 // The call of a card, and what it answers.
-fn run_card(before: ManagerC, c: CallC) -> ManagerC {
+fn run_card(before: ManagerC, c: CallC, output: &mut impl Write) -> io::Result<ManagerC> {
     let called = call(before, c);
     let answer = called.answer;
     let manager = called.manager;
     if answer.refused > 0 {
-        write_refusal(answer.refused);
+        write_refusal(answer.refused, output)?;
     } else {
-        write_lines(answer);
+        write_lines(answer, output)?;
         let fired = answer.fired;
-        let timers = fired.timers;
-        write_fired(fired.count, timers);
-        write_record(c.code, manager);
+        write_fired(fired.count, fired.timers, output)?;
+        write_record(c.code, manager, output)?;
     }
-    manager
+    Ok(manager)
 }
 
 // One more card, if there is one.
-fn run_turn(before: ManagerC) -> Turn {
-    let card = next_card();
-    let c = card.call;
+fn run_turn(before: ManagerC, input: &mut impl Read, output: &mut impl Write) -> io::Result<Turn> {
+    let card = next_card(input)?;
     if card.there {
-        let manager = run_card(before, c);
-        return Turn {
+        let manager = run_card(before, card.call, output)?;
+        return Ok(Turn {
             there: true,
             manager,
-        };
+        });
     }
-    Turn {
+    Ok(Turn {
         there: false,
         manager: before,
-    }
+    })
 }
 
 // The record of a refused set-up, which no call but set-up takes.
@@ -198,16 +205,19 @@ fn blank() -> ManagerC {
     flat_record(manager)
 }
 
-fn main() {
+fn main(rt: HostRuntime) -> io::Result<()> {
+    let mut input = BufReader::new(rt.alloc(), rt.reader())?;
+    let mut output = BufWriter::new(rt.alloc(), io::writer(&rt))?;
     let manager = blank();
     let mut t = Turn {
         there: true,
         manager,
     };
-    let mut turns: u64 = TURNS;
-    while turns > 0 && t.there {
-        let before = t.manager;
-        t = run_turn(before);
-        turns -= 1;
+    for _ in 0..TURNS {
+        if !t.there {
+            break;
+        }
+        t = run_turn(t.manager, &mut input, &mut output)?;
     }
+    output.flush()
 }

@@ -9,6 +9,8 @@ use example_calls::{Done, advanced, noticed, perform, start};
 use example_questions::{ask, is_question};
 use example_script::{Counts, copy_saying, judge, letter, notice, word, write_counts};
 use lease::{LeaseNum, Manager};
+use std::io;
+use std::io::{BufReader, BufWriter, Read, Write};
 use timer::Reading;
 
 // More lines than the file has.
@@ -21,53 +23,57 @@ struct Run {
     counts: Counts,
 }
 
-fn add_notice_lending(m: Manager) -> Done {
-    let num = LeaseNum(word());
-    noticed(lent_notice::add_notice_lending(m, num, notice()))
+fn add_notice_lending(m: Manager, input: &mut impl Read) -> io::Result<Done> {
+    let num = LeaseNum(word(input)?);
+    Ok(noticed(lent_notice::add_notice_lending(m, num, notice(input)?)))
 }
 
-fn advance_lending(m: Manager) -> Done {
-    advanced(lent_advance::advance_lending(m, Reading(word())))
+fn advance_lending(m: Manager, input: &mut impl Read) -> io::Result<Done> {
+    Ok(advanced(lent_advance::advance_lending(m, Reading(word(input)?))))
 }
 
-fn asked(m: Manager, letter: u8) -> Done {
-    let answer = ask(m, letter);
-    Done { manager: m, answer }
+fn asked(m: Manager, letter: u8, input: &mut impl Read) -> io::Result<Done> {
+    let answer = ask(m, letter, input)?;
+    Ok(Done { manager: m, answer })
 }
 
 // The call of a line.
-fn call(m: Manager) -> Done {
-    let first = letter();
+fn call(m: Manager, input: &mut impl Read) -> io::Result<Done> {
+    let first = letter(input)?;
     if is_question(first) {
-        return asked(m, first);
+        return asked(m, first, input);
     }
     match first {
-        b'N' => add_notice_lending(m),
-        b'A' => advance_lending(m),
-        _ => perform(m, first),
+        b'N' => add_notice_lending(m, input),
+        b'A' => advance_lending(m, input),
+        _ => perform(m, first, input),
     }
 }
 
 // A line: its call on the record of the line before, and whether the answer is right.
-fn run_line(before: Run) -> Run {
+fn run_line(before: Run, input: &mut impl Read, output: &mut impl Write) -> io::Result<Run> {
     let record = before.manager;
     let so_far = before.counts;
-    let done = call(record);
+    let done = call(record, input)?;
     let manager = done.manager;
-    let counts = judge(done.answer, so_far);
-    Run { manager, counts }
+    let counts = judge(done.answer, so_far, input, output)?;
+    Ok(Run { manager, counts })
 }
 
-fn main() {
+fn main(rt: HostRuntime) -> io::Result<()> {
+    let mut input = BufReader::new(rt.alloc(), rt.reader())?;
+    let mut output = BufWriter::new(rt.alloc(), io::writer(&rt))?;
     let first = start();
     let manager = first.manager;
     let counts = Counts { right: 0, count: 0 };
     let mut run = Run { manager, counts };
-    let mut turns: u64 = TURNS;
-    while turns > 0 && copy_saying() {
-        run = run_line(run);
-        turns -= 1;
+    for _ in 0..TURNS {
+        if !copy_saying(&mut input, &mut output)? {
+            break;
+        }
+        run = run_line(run, &mut input, &mut output)?;
     }
     let all = run.counts;
-    write_counts(all);
+    write_counts(all, &mut output)?;
+    output.flush()
 }
