@@ -5,7 +5,7 @@ use seplogic.Ra.Ura.{Ura}
 use base.Logic.{SProp}
 use contract.Lifetimes.{Lfts}
 use contract.Monad.{Fun, fact}
-use Rattle.std.specs.Borrow.{Bor}
+use Rattle.std.specs.Borrow.{MutBor}
 use types.Logic.{Logic}
 use prog.Memory.{Memory}
 use prog.Routine.{Routine}
@@ -86,10 +86,10 @@ AdvanceLent m to r m' = (r ≡ (advance_of m to).advanced) × (m' ≡ (advance_o
 -- A contract over a lent struct has no `Learnt`. What it ensures, as the program logic has it, is the fact above and nothing else.
 pub record LentEnsures : Type 2 where
   pub notice : {M : Type 1} {𝓤 : Ura M} (𝓛 : Logic 𝓤) (κs : Lfts 1) (mem : Memory → SProp 𝓤) (run : Routine → Fun 𝓤)
-      (at left : Bor Manager) (num : LeaseNum) (x : LeaseNotice) (r : NoticeOutcome)
+      (at left : MutBor Manager) (num : LeaseNum) (x : LeaseNotice) (r : NoticeOutcome)
       → (add-notice-lent.clauses 𝓛 mem run κs (at, (num, (x, tt)))).ensures tt r (left, (num, (x, tt))) ≡ fact 𝓤 (AddNoticeLent at.now num x r left.now)
   pub advance : {M : Type 1} {𝓤 : Ura M} (𝓛 : Logic 𝓤) (κs : Lfts 1) (mem : Memory → SProp 𝓤) (run : Routine → Fun 𝓤)
-      (at left : Bor Manager) (to : Reading) (r : Advanced)
+      (at left : MutBor Manager) (to : Reading) (r : Advanced)
       → (advance-lent.clauses 𝓛 mem run κs (at, (to, tt))).ensures tt r (left, (to, tt)) ≡ fact 𝓤 (AdvanceLent at.now to r left.now)
 
 -- The callers that lend.

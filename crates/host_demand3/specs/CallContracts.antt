@@ -5,7 +5,7 @@ use seplogic.Ra.Ura.{Ura}
 use base.Logic.{SProp}
 use contract.Lifetimes.{Lfts}
 use contract.Monad.{Fun, fact}
-use Rattle.std.specs.Borrow.{Bor}
+use Rattle.std.specs.Borrow.{MutBor}
 use types.Logic.{Logic}
 use prog.Memory.{Memory}
 use prog.Routine.{Routine}
@@ -24,7 +24,7 @@ LentCall f c r f' = (r ≡ (call_of f c).answer) × (f' ≡ (call_of f c).manage
 -- A contract over a lent struct has no `Learnt`. What it ensures, as the program logic has it, is the fact above and nothing else.
 pub record LentEnsures : Type 2 where
   pub call : {M : Type 1} {𝓤 : Ura M} (𝓛 : Logic 𝓤) (κs : Lfts 1) (mem : Memory → SProp 𝓤) (run : Routine → Fun 𝓤)
-      (at left : Bor ManagerC) (c : CallC) (r : AnswerC)
+      (at left : MutBor ManagerC) (c : CallC) (r : AnswerC)
       → (biasflint-call.clauses 𝓛 mem run κs (at, (c, tt))).ensures tt r (left, (c, tt)) ≡ fact 𝓤 (LentCall at.now c r left.now)
 
 -- By value: the answer and the next record are handed back together.
