@@ -1,6 +1,4 @@
 -- What is left of `card_lines::all_numbers`.
-use borrow.Author.Tests.{not-true, not-false}
-use borrow.Author.Rules.{rules}
 use Rattle.card_lines.specs.Lines.{all_numbers}
 use Rattle.card_lines.proofs.all_numbers.Goals as goal
 

@@ -7,16 +7,16 @@ use Rattle.card_lines.proofs.Text.{length-one, laid_then}
 use Rattle.card_lines.proofs.put_actions.Goals as goal
 
 pub put_action-requires-in-Two : goal.put_action-requires-in-Two
-put_action-requires-in-Two c = let w = c.put_action-second in omega (arith, simp length-one at w.ensures.0, w.auto.0)
+put_action-requires-in-Two c = let w = c.put_action-second in omega (arith, simp length-one at w.ensures.value, w.auto.out)
 
 pub put_action-third-requires : goal.put_action-third-requires
-put_action-third-requires c = let w = c.put_action-second-in-Three in omega (arith, simp length-one at w.ensures.0, w.auto.0)
+put_action-third-requires c = let w = c.put_action-second-in-Three in omega (arith, simp length-one at w.ensures.value, w.auto.out)
 
 pub put_action-requires-in-Three : goal.put_action-requires-in-Three
 put_action-requires-in-Three c =
     let one = c.put_action-second-in-Three in
     let two = c.put_action-third in
-    omega (arith, simp length-one at one.ensures.0, one.auto.0, simp length-one at two.ensures.0, two.auto.0)
+    omega (arith, simp length-one at one.ensures.value, one.auto.out, simp length-one at two.ensures.value, two.auto.out)
 
 pub returns-in-None : goal.returns-in-None
 unfolding action_lines text_of
@@ -32,8 +32,8 @@ returns-in-Two c =
     let one = c.put_action-second in
     let two = c.put_action-in-Two in
     let a = c.args in
-    rw c.in-Two.is
-    (laid_then a.out.now one.new.0 two.new.0 a.at one.result two.result (action_line _) (action_line _) one.ensures two.ensures)
+    let whole = laid_then a.out.now one.new.out two.new.out a.at one.result two.result (action_line _) (action_line _) (one.ensures.value, one.ensures.out_after) (two.ensures.value, two.ensures.out_after) in
+    rw c.in-Two.is (record { value = whole.0; out_after = whole.1 })
 
 pub returns-in-Three : goal.returns-in-Three
 unfolding action_lines
@@ -42,6 +42,6 @@ returns-in-Three c =
     let two = c.put_action-third in
     let three = c.put_action-in-Three in
     let a = c.args in
-    let front = laid_then a.out.now one.new.0 two.new.0 a.at one.result two.result (action_line _) (action_line _) one.ensures two.ensures in
-    rw c.in-Three.is
-    (laid_then a.out.now two.new.0 three.new.0 a.at two.result three.result (action_line _ ++ action_line _) (action_line _) front three.ensures)
+    let front = laid_then a.out.now one.new.out two.new.out a.at one.result two.result (action_line _) (action_line _) (one.ensures.value, one.ensures.out_after) (two.ensures.value, two.ensures.out_after) in
+    let whole = laid_then a.out.now two.new.out three.new.out a.at two.result three.result (action_line _ ++ action_line _) (action_line _) front (three.ensures.value, three.ensures.out_after) in
+    rw c.in-Three.is (record { value = whole.0; out_after = whole.1 })

@@ -24,7 +24,7 @@ put_quiet_end-requires c =
     let w = c.put_fired-end_at in
     let known = c in
     let s = known in
-    omega (arith, rw known.in-Fired.is at s.requires, w.auto.0, fired-end s.args.at w.result _ s.args.fired w.ensures.0)
+    omega (arith, rw known.in-Fired.is at s.requires, w.auto.out, fired-end s.args.at w.result _ s.args.fired w.ensures.value)
 
 pub returns-in-Refused : goal.returns-in-Refused
 unfolding outcome_lines
@@ -43,7 +43,6 @@ unfolding outcome_lines
 returns-in-Fired c =
     let front = c.put_fired-end_at in
     let rest = c.put_quiet_end in
-    let known = c in
-    let a = known.args in
-    rw known.in-Fired.is
-    (laid_then a.out.now front.new.0 rest.new.0 a.at front.result rest.result (fired_lines _ (listed_in a.fired)) (quiet_lines _) front.ensures rest.ensures)
+    let a = c.args in
+    let whole = laid_then a.out.now front.new.out rest.new.out a.at front.result rest.result (fired_lines _ (listed_in a.fired)) (quiet_lines _) (front.ensures.value, front.ensures.out_after) (rest.ensures.value, rest.ensures.out_after) in
+    rw c.in-Fired.is (record { value = whole.0; out_after = whole.1 })

@@ -1,6 +1,5 @@
 -- What is left of `card_lines::read_line`.
-use borrow.Author.Tests.{eq-eqb, ne_eqb, not-true, not-false}
-use borrow.Author.Rules.{rules}
+use borrow.Author.Tests.{eq-eqb, ne_eqb}
 use Rattle.card_lines.specs.Lines.{line_read}
 use Rattle.card_lines.proofs.read_line.Goals as goal
 

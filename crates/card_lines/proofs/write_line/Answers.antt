@@ -1,5 +1,5 @@
 -- What is left of `card_lines::write_line`.
-use borrow.Author.Tests.{le-leb, lt-leb, not-true, not-false}
+use borrow.Author.Tests.{le-leb, lt-leb}
 use borrow.Author.Rules.{rules}
 use Rattle.card_lines.specs.Lines.{can_write}
 use Rattle.card_lines.proofs.write_line.Goals as goal
@@ -14,8 +14,4 @@ returns-then-not-line_fits c = simp (← c.line_fits.ensures, c.if-not-line_fits
 
 pub returns : goal.returns
 unfolding can_write
-returns c =
-    let w = c.put_line-end in
-    let fitting = c in
-    let ok = fitting.line_fits in
-    simp (w.ensures.1, ← ok.ensures, not-false ok.result fitting.if-not-line_fits.false, le-leb _ _ fitting.if-out-lt-LINE.false) (search rules)
+returns c = simp (c.put_line-end.ensures.out_after, ← c.line_fits.ensures, c.if-not-line_fits.false, le-leb _ _ c.if-out-lt-LINE.false) (search rules)

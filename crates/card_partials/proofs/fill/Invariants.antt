@@ -1,10 +1,7 @@
 -- The loop's invariant: what is left of the line, from i on, gives the whole.
-use Rattle.std.proofs.Common.{◌+◌, ◌-◌, ◌≤◌, ◌≡◌, ◌∙◌, sym, arith}
+use Rattle.std.proofs.Common.{◌+◌, ◌-◌, ◌≤◌, ◌≡◌}
 use lib.ListN.{length, drop}
-use borrow.Author.Tests.{eq-eqb, ne_eqb}
-use borrow.Author.Rules.{rules}
 use Rattle.card_partials.specs.Partials.{fill_next, line_end}
-use Rattle.card_partials.proofs.Bytes.{fill-at, fill_stop, fill_end}
 use Rattle.card_partials.proofs.fill.Given as goal
 
 abbrev pub invariant-loop-i : goal.invariant-loop-i

@@ -1,6 +1,5 @@
 -- What is left of `card_partials::keep`.
 use borrow.Author.Tests.{lt-ltb, le-ltb}
-use borrow.Author.Rules.{rules}
 use Rattle.card_partials.specs.Partials.{kept_by}
 use Rattle.card_partials.proofs.keep.Goals as goal
 

@@ -1,6 +1,5 @@
 -- What is left of `card_partials::read_partial`.
 use borrow.Author.Tests.{eq-eqb, ne_eqb}
-use borrow.Author.Rules.{rules}
 use Rattle.card_partials.specs.Partials.{partial_read}
 use Rattle.card_partials.proofs.read_partial.Goals as goal
 

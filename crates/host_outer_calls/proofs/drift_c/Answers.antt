@@ -1,5 +1,4 @@
 -- What is left of `host_outer_calls::drift_c`.
-use borrow.Author.Rules.{rules}
 use Rattle.host_rules.specs.Calls.{drift_c}
 use Rattle.host_outer_calls.proofs.drift_c.Goals as goal
 

@@ -1,5 +1,4 @@
 -- What is left of `host_outer_calls::quiet_c`.
-use borrow.Author.Rules.{rules}
 use Rattle.host_rules.specs.Calls.{quiet_c}
 use Rattle.host_outer_calls.proofs.quiet_c.Goals as goal
 

@@ -1,5 +1,4 @@
 -- What is left of `host_outer_calls::refresh_c`.
-use borrow.Author.Rules.{rules}
 use Rattle.host_rules.specs.Calls.{refresh_c}
 use Rattle.host_outer_calls.proofs.refresh_c.Goals as goal
 

@@ -1,5 +1,4 @@
 -- What is left of `host_questions::grant_set_c`.
-use borrow.Author.Rules.{rules}
 use Rattle.host_rules.specs.Calls.{grant_set_c}
 use Rattle.host_questions.proofs.grant_set_c.Goals as goal
 

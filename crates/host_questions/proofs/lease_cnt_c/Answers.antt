@@ -1,5 +1,4 @@
 -- What is left of `host_questions::lease_cnt_c`.
-use borrow.Author.Rules.{rules}
 use Rattle.host_rules.specs.Calls.{lease_cnt_c}
 use Rattle.host_questions.proofs.lease_cnt_c.Goals as goal
 

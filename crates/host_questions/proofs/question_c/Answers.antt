@@ -1,6 +1,5 @@
 -- What is left of `host_questions::question_c`.
 use borrow.Author.Tests.{eq-eqb, ne_eqb}
-use borrow.Author.Rules.{rules}
 use Rattle.host_rules.specs.Calls.{question_c}
 use Rattle.host_questions.proofs.question_c.Goals as goal
 

@@ -1,5 +1,4 @@
 -- What is left of `host_questions::time_left_c`.
-use borrow.Author.Rules.{rules}
 use Rattle.host_rules.specs.Calls.{time_left_c}
 use Rattle.host_questions.proofs.time_left_c.Goals as goal
 
