@@ -1,7 +1,7 @@
 -- DEMAND 3 OF THIS PROGRAM, the statement: for every list of calls from an accepted set-up, by value or lent, refused ones and questions
 -- included, each on the record that the last one returned or left, the program's grant set, lease set and lease count, and the count of
--- Promise lines, are what the log of the rules' actions says. A step is what an exported call's contract ensures (Contracts); the log is
--- the rules' own over the same calls, and is told nothing of the program (log/specs/Log). Definitions only; proved in proofs/Demand3.
+-- Promise lines, are what the log of the rules' actions says. A step is what an exported call's contract ensures (CallContracts); the log is
+-- the rules' own over the same calls, and is told nothing of the program (lease_log/specs/Log). Definitions only; proved in proofs/Demand3.
 use Rattle.std.specs.Prelude.{◌≡◌, List, ℕ}
 use Rattle.timer.specs.declared.Reading.{Reading}
 use Rattle.lease.specs.declared.PeerSet.{PeerSet}

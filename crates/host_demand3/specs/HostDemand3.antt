@@ -1,7 +1,7 @@
 -- DEMAND 3 OF THE HOST LIBRARY, the statement: for every list of cards from an accepted set-up, lent or by value, refused ones, questions
 -- and cards that are no call included, each on the record that the last one left, the answers to grant set, lease set and lease count, and
--- the count of Promise lines, are what the log of the rules' actions says. A step is what the call's contract ensures (Contracts); the log
--- is the rules' own over the calls that the cards stand for, and is told nothing of the flat record (log/specs/Log). Definitions only;
+-- the count of Promise lines, are what the log of the rules' actions says. A step is what the call's contract ensures (CallContracts); the log
+-- is the rules' own over the calls that the cards stand for, and is told nothing of the flat record (lease_log/specs/Log). Definitions only;
 -- proved in proofs/HostDemand3.
 use Rattle.std.specs.Prelude.{◌≡◌, cond, List, [], ◌∷◌, ℕ, eqb, ltb}
 use Rattle.lease.specs.declared.SetOutcome.TheVariants as SO
