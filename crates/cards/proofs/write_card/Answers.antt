@@ -14,7 +14,4 @@ returns-then-not-is_carried c = simp (← c.is_carried.ensures, c.if-not-is_carr
 
 pub returns : goal.returns
 unfolding can_write
-returns c =
-    let carried = c in
-    let ok = carried.is_carried in
-    simp (c.put_card.ensures, c.card_of-c.ensures, ← ok.ensures, carried.if-not-is_carried.false, le-leb _ _ carried.if-out-lt-CARD.false) (search rules)
+returns c = simp (c.put_card.ensures, c.card_of-c.ensures, ← c.is_carried.ensures, c.if-not-is_carried.false, le-leb _ _ c.if-out-lt-CARD.false) (search rules)
