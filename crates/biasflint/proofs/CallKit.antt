@@ -1,4 +1,4 @@
--- The machine values of the record, the card and the answer of `biasflint_call`, shut, so that the walk does not compute with their fields, and of what
+-- The machine values of the record, the card and the answer of `biasflint_call`, shut, so that a proof by their laws does not compute with their fields, and of what
 -- `call` gives, apart from its two fields'. Assumes nothing.
 use mathlib.Core.List.{[], ◌∷◌, List}
 use seplogic.Ra.Ura.{Ura}

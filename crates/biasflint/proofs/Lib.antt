@@ -1,2 +1,2 @@
--- What the walk of the exported call rests on.
+-- The machine values of what `biasflint_call` takes and gives.
 pub mod CallKit

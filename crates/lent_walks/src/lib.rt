@@ -1,3 +1,3 @@
-// The laws by which the proofs over a lent record go, for any types, and the machine values of the types that the
-// lent calls take and give. Proofs alone, no code.
+// Laws by which the compiled steps of a function over a lent record can be walked, for any types, and the machine values
+// of the types that the lent calls take and give. Proofs alone, no code; Rattle proves the lent calls without them.
 #![tactic(auto)]
