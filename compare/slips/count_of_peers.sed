@@ -1,2 +1,2 @@
 # lookups: lease_cnt leaves out this controller
-s/1 + p.count/0 + p.count/
+s/1 + pass_over/0 + pass_over/

@@ -1,2 +1,2 @@
 # drift_floats: the product in ns is cut off
-s/^    whole + 1$/    whole/
+s/Ordering::Greater => whole + 1,/Ordering::Greater => whole,/

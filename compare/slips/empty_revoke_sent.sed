@@ -1,2 +1,2 @@
 # set_notices: Revoke is broadcast to nobody
-s/if to.bits == 0 {/if to.bits == 1 {/
+s/if first.bits == 0 {/if first.bits == 1 {/

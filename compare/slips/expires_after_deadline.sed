@@ -1,2 +1,2 @@
 # timer_readings: a timer explodes only past its deadline
-/^pub fn expire/,/^}/s/deadline.0 <= now.0/deadline.0 < now.0/
+/^pub fn expire/,/^}/s/if deadline <= now/if deadline < now/

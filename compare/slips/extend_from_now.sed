@@ -1,2 +1,2 @@
 # timer: a refresh extends from now and not from the deadline
-s/Reading(deadline.0 + by)/Reading(now.0 + by)/
+s/let from = deadline.max(now);/let from = now;/

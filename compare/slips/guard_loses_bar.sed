@@ -1,2 +1,2 @@
 # set_notices: the Guard broadcast loses its bar
-s/LeaseMsg::Guard(bar)/LeaseMsg::Guard(AcceptBar::None)/
+s/LeaseMsg::Guard(bar)/LeaseMsg::Guard(None)/

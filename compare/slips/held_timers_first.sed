@@ -1,2 +1,2 @@
 # fired_order: at equal deadlines held timers before sent ones
-s/^    y\.held$/    x.held/
+s/(d, x\.held, x\.id) < (e, y\.held, y\.id)/(d, y.held, x.id) < (e, x.held, y.id)/

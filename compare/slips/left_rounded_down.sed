@@ -1,2 +1,2 @@
 # timer_readings: time left is rounded down
-s|(deadline.0 - now.0 - 1) / NANOS_PER_MILLI + 1|(deadline.0 - now.0) / NANOS_PER_MILLI|
+s|saturating_sub(now.0).div_ceil(NANOS_PER_MILLI)|saturating_sub(now.0) / NANOS_PER_MILLI|

@@ -1,2 +1,2 @@
 # held_promise: a Promise does not kick off a promise that is held
-/^        Entry::Absent => match promise/,/^            },/s/peer: promised/peer: row/
+s/promise_held: Some(t),/promise_held: row.promise_held.or(Some(t)),/

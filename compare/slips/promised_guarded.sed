@@ -1,2 +1,2 @@
 # visits: NewGrants guards a peer that has a promise
-s/both(named, !has_promise)/both(named, true)/
+s/named \&\& row.promise_sent.is_none()/named/

@@ -1,2 +1,2 @@
 # drift_floats: the rate is at least 2
-s/if r < 1 { 1 }/if r < 2 { 2 }/
+s/\.max(1)/.max(2)/

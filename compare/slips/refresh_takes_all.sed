@@ -1,2 +1,2 @@
 # refresh_visits: a refresh takes every marked peer, whatever the set
-s/both(named, row.refresh_mark)/both(true, row.refresh_mark)/
+s/if named \&\& row.refresh_mark/if row.refresh_mark/

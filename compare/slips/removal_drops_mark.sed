@@ -1,2 +1,2 @@
 # sent_promise: the mark goes with the grant
-s/Grant::Absent, row.refresh_mark)/Grant::Absent, false)/
+s/promise_sent: None,/promise_sent: None, refresh_mark: false,/

@@ -1,2 +1,2 @@
 # visits: DoRevoke leaves the sent guard of a peer
-/Grant::Absent => {/,/}/s/with_sent(row, Entry::Absent,/with_sent(row, row.guard_sent,/
+/^pub fn do_revoke_row/,/^}/s/guard_sent: None,/guard_sent: row.guard_sent,/

@@ -1,2 +1,2 @@
 # refresh_visits: a revoking peer keeps its mark (document 01, slip 4)
-s/Grant::Present(timer, revoking), false)/Grant::Present(timer, revoking), revoking)/
+s/return in_none(unmarked);/return in_none(Peer { refresh_mark: revoking, ..unmarked });/

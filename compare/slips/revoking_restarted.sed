@@ -1,2 +1,2 @@
 # sent_promise: PromiseReply kicks off a promise that is being revoked
-s/either(revoking, over)/either(false, over)/
+s/if revoking || exploded(timer)/if exploded(timer)/

@@ -1,2 +1,2 @@
 # sent_ends: GrantTimeout drops an unarmed guard
-s/either(guard_waits, promise_waits)/either(false, promise_waits)/
+s/if is_unexploded(row.guard_sent) || is_unexploded(promise)/if is_unexploded(promise)/

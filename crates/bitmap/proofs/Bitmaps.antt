@@ -9,7 +9,7 @@ use Rattle.bitmap.specs.declared.Bitmap.{Bitmap}
 use Rattle.bitmap.specs.Sets.{member, ids_where, count_where}
 use Rattle.bitmap.specs.Bitmaps.{capacity, number, bitmap_of, bitmap_where, is_one}
 use Rattle.bitmap.specs.Operations.{bad_size, is_missing, in_range}
-use Rattle.bitmap.proofs.Laws.{member_below, ids_where-same, ids_where-member, ids_where-empty, count_where-none, empty-count}
+use Rattle.bitmap.proofs.Laws.{member-beyond, member_below, ids_where-same, ids_where-member, ids_where-empty, count_where-none, empty-count}
 
 -- a size that is not refused has room
 pub size-le : (n : ℕ) {bad : Bool} → bad ≡ bad_size n → bad ≡ false → n ≤ capacity
@@ -30,6 +30,14 @@ is_one-below size p i h = rw (lt-ltb i size h) (member_below p size i h)
 -- at or above the size there is no one
 pub is_one-above : (b : Bitmap) (i : ℕ) → b.size ≤ i → is_one b i ≡ false
 is_one-above b i h = rw (le-ltb i b.size h)
+
+-- a number of 64 bits has no id at or above 64
+pub is_one_past : (b : Bitmap) (i : ℕ) → number b < 2 ^ capacity → capacity ≤ i → is_one b i ≡ false
+is_one_past b i l h = rw (member-beyond (number b) capacity i l h) (none (ltb i b.size))
+  where
+    none : (x : Bool) → (x && false) ≡ false
+    none true = refl
+    none false = refl
 
 -- a bitmap with no ones at or above its size is what its ones make
 pub of-its-ones : (b : Bitmap) → number b < 2 ^ b.size → bitmap_where b.size (is_one b) ≡ b

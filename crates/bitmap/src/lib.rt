@@ -2,10 +2,12 @@
 // The calls of module 1 stand in bitmap_calls, those over a slice of ids in bitmap_lists; what they answer is in specs/Operations.
 #![tactic(auto)]
 
-ghost use Rattle.std.specs.Prelude.{◌≡◌, ◌+◌, ◌^◌, ◌<◌};
+ghost use Rattle.std.specs.Prelude.{◌≡◌, ◌+◌, ◌^◌, ◌<◌, ◌≤◌, OnOk};
 ghost use Rattle.bitmap.specs.Sets.{member, one, weight};
 ghost use Rattle.bitmap.specs.Bitmaps.{capacity, number, bitmap_of, is_one};
-ghost use Rattle.bitmap.specs.Operations.{bad_size};
+ghost use Rattle.bitmap.specs.Operations.{refusal_number, bad_size, size_checked};
+
+use thiserror::Error;
 
 // How many ids a bitmap has room for.
 pub const CAPACITY: u8 = 64;
@@ -17,42 +19,31 @@ pub struct Bitmap {
     pub bits: u64,
 }
 
-// Document 01's numbers of the refusals, in the order in which they are looked at.
-pub const BAD_SIZE: u8 = 12;
-
-pub const BAD_ID: u8 = 10;
-
-pub const SIZES_DIFFER: u8 = 11;
-
-pub const SHORT_SLICE: u8 = 13;
-
-// A set, or the number of the refusal.
-#[derive(Clone, Copy)]
-pub enum BitmapAnswer {
-    Refused(u8),
-    Set(Bitmap),
+// Why a call is refused, in the order of document 01's numbers.
+#[derive(Clone, Copy, PartialEq, Eq, Debug, Error)]
+pub enum BitmapError {
+    #[error("id not below the size")]
+    BadId,
+    #[error("union of different sizes")]
+    SizesDiffer,
+    #[error("size not 1 to 64")]
+    BadSize,
+    #[error("lent slice shorter than the count")]
+    ShortSlice,
 }
 
-// A flag, or the number of the refusal.
-#[derive(Clone, Copy)]
-pub enum FlagAnswer {
-    Refused(u8),
-    Flag(bool),
-}
-
-// A count of ids, or the number of the refusal.
-#[derive(Clone, Copy)]
-pub enum CountAnswer {
-    Refused(u8),
-    Count(u8),
-}
-
-// The number of the set that has the id i alone.
-fn power(i: usize) -> u64
-    requires { i < capacity }
-    ensures { result ≡ 2 ^ i }
-{
-    1u64 << i
+impl BitmapError {
+    // Document 01's number of the refusal.
+    pub fn number(self) -> u8
+        ensures { result ≡ refusal_number self }
+    {
+        match self {
+            BitmapError::BadId => 10,
+            BitmapError::SizesDiffer => 11,
+            BitmapError::BadSize => 12,
+            BitmapError::ShortSlice => 13,
+        }
+    }
 }
 
 // Whether the set has the id i.
@@ -60,8 +51,7 @@ fn has(bits: u64, i: usize) -> bool
     requires { i < capacity }
     ensures { result ≡ member bits i }
 {
-    let unit = power(i);
-    bits / unit % 2 == 1
+    (bits >> i) & 1 == 1
 }
 
 // What the id i adds to a set.
@@ -69,7 +59,7 @@ fn weight_of(on: bool, i: usize) -> u64
     requires { i < capacity }
     ensures { result ≡ weight on i }
 {
-    if on { power(i) } else { 0 }
+    u64::from(on) << i
 }
 
 // The set of no id.
@@ -85,10 +75,9 @@ pub fn with_id(set: Bitmap, on: bool, i: usize) -> Bitmap
     requires set_bound { number set < 2 ^ i }
     ensures { result ≡ bitmap_of set.size (number set + weight on i) }
 {
-    let w = weight_of(on, i);
     Bitmap {
-        size: set.size,
-        bits: set.bits + w,
+        bits: set.bits + weight_of(on, i),
+        ..set
     }
 }
 
@@ -96,28 +85,33 @@ pub fn with_id(set: Bitmap, on: bool, i: usize) -> Bitmap
 pub fn one_if(on: bool) -> u64
     ensures { result ≡ one on }
 {
-    if on { 1 } else { 0 }
+    u64::from(on)
 }
 
 // Whether the id i is a one of b: ones at or above its size count as zeros.
+#[tactic(auto, using(crate::proofs::Bitmaps::is_one_past))]
 pub fn is_one(b: Bitmap, i: usize) -> bool
     ensures { result ≡ is_one b i }
 {
-    if b.size as usize <= i {
-        return false;
-    }
-    if CAPACITY as usize <= i {
-        return false;
-    }
-    has(b.bits, i)
+    i < usize::from(b.size.min(CAPACITY)) && has(b.bits, i)
 }
 
 // Whether the size is not 1 to 64.
+#[tactic(auto, unfolding(crate::specs::Operations::bad_size))]
 pub fn bad_size(size: u8) -> bool
     ensures { result ≡ bad_size size }
 {
-    if size == 0 {
-        return true;
+    size == 0 || CAPACITY < size
+}
+
+// Refuses a size that is not 1 to 64.
+#[tactic(auto, unfolding(crate::specs::Operations::bad_size))]
+pub fn check_size(size: u8) -> Result<(), BitmapError>
+    ensures checked { result ≡ size_checked size }
+    ensures sized { OnOk result (size ≤ capacity) }
+{
+    if bad_size(size) {
+        return Err(BitmapError::BadSize);
     }
-    CAPACITY < size
+    Ok(())
 }

@@ -7,7 +7,7 @@ ghost use Rattle.bitmap.specs.Bitmaps.{bitmap_of};
 ghost use Rattle.bitmap.specs.Operations.{new_of, set_of, get_of, size_of, count_of, flip_of, union_of, is_superset_of, clear_of, from_range_of, from_ids_of, ones_of, bytes_after_ones};
 ghost use Rattle.bitmap_c.specs.Flat.{flat_set, flat_flag, flat_count};
 
-use bitmap::{Bitmap, BitmapAnswer, CountAnswer, FlagAnswer};
+use bitmap::{Bitmap, BitmapError};
 
 // A set, or the number of the refusal.
 #[repr(C)]
@@ -26,51 +26,48 @@ pub struct ValueC {
     pub value: u8,
 }
 
-// An answer with a set, with a flag and with a count, as specs/Flat says.
-fn set_c(answer: BitmapAnswer) -> SetC
-    ensures { result ≡ flat_set answer }
-{
-    match answer {
-        BitmapAnswer::Refused(k) => SetC {
-            refused: k,
-            size: 0,
-            bits: 0,
-        },
-        BitmapAnswer::Set(b) => SetC {
-            refused: 0,
-            size: b.size,
-            bits: b.bits,
-        },
+// An answer with a set, with a count and with a flag, as specs/Flat says.
+impl From<Result<Bitmap, BitmapError>> for SetC {
+    ghost from_gives = { λ answer c. c ≡ flat_set answer };
+
+    fn from(answer: Result<Bitmap, BitmapError>) -> SetC {
+        match answer {
+            Ok(b) => SetC {
+                refused: 0,
+                size: b.size,
+                bits: b.bits,
+            },
+            Err(e) => SetC {
+                refused: e.number(),
+                size: 0,
+                bits: 0,
+            },
+        }
     }
 }
 
-fn flag_c(answer: FlagAnswer) -> ValueC
-    ensures { result ≡ flat_flag answer }
-{
-    match answer {
-        FlagAnswer::Refused(k) => ValueC {
-            refused: k,
-            value: 0,
-        },
-        FlagAnswer::Flag(flag) => ValueC {
-            refused: 0,
-            value: flag as u8,
-        },
+impl From<Result<u8, BitmapError>> for ValueC {
+    ghost from_gives = { λ answer c. c ≡ flat_count answer };
+
+    fn from(answer: Result<u8, BitmapError>) -> ValueC {
+        match answer {
+            Ok(n) => ValueC {
+                refused: 0,
+                value: n,
+            },
+            Err(e) => ValueC {
+                refused: e.number(),
+                value: 0,
+            },
+        }
     }
 }
 
-fn count_c(answer: CountAnswer) -> ValueC
-    ensures { result ≡ flat_count answer }
-{
-    match answer {
-        CountAnswer::Refused(k) => ValueC {
-            refused: k,
-            value: 0,
-        },
-        CountAnswer::Count(n) => ValueC {
-            refused: 0,
-            value: n,
-        },
+impl From<Result<bool, BitmapError>> for ValueC {
+    ghost from_gives = { λ answer c. c ≡ flat_flag answer };
+
+    fn from(answer: Result<bool, BitmapError>) -> ValueC {
+        ValueC::from(answer.map(u8::from))
     }
 }
 
@@ -79,7 +76,7 @@ fn count_c(answer: CountAnswer) -> ValueC
 pub extern "C" fn bitmap_new(size: u8, ones: bool) -> SetC
     ensures { result ≡ flat_set (new_of size ones) }
 {
-    set_c(bitmap_calls::new(size, ones))
+    SetC::from(bitmap_calls::new(size, ones))
 }
 
 // The set with the id put in or taken out by the flag.
@@ -87,7 +84,7 @@ pub extern "C" fn bitmap_new(size: u8, ones: bool) -> SetC
 pub extern "C" fn bitmap_set(size: u8, bits: u64, id: usize, flag: bool) -> SetC
     ensures { result ≡ flat_set (set_of (bitmap_of size bits) id flag) }
 {
-    set_c(bitmap_calls::set(Bitmap { size, bits }, id, flag))
+    SetC::from(bitmap_calls::set(Bitmap { size, bits }, id, flag))
 }
 
 // Whether the set has the id.
@@ -95,7 +92,7 @@ pub extern "C" fn bitmap_set(size: u8, bits: u64, id: usize, flag: bool) -> SetC
 pub extern "C" fn bitmap_get(size: u8, bits: u64, id: usize) -> ValueC
     ensures { result ≡ flat_flag (get_of (bitmap_of size bits) id) }
 {
-    flag_c(bitmap_calls::get(Bitmap { size, bits }, id))
+    ValueC::from(bitmap_calls::get(Bitmap { size, bits }, id))
 }
 
 // The set's size.
@@ -103,7 +100,7 @@ pub extern "C" fn bitmap_get(size: u8, bits: u64, id: usize) -> ValueC
 pub extern "C" fn bitmap_size(size: u8, bits: u64) -> ValueC
     ensures { result ≡ flat_count (size_of (bitmap_of size bits)) }
 {
-    count_c(bitmap_calls::size(Bitmap { size, bits }))
+    ValueC::from(bitmap_calls::size(Bitmap { size, bits }))
 }
 
 // How many ones the set has.
@@ -111,7 +108,7 @@ pub extern "C" fn bitmap_size(size: u8, bits: u64) -> ValueC
 pub extern "C" fn bitmap_count(size: u8, bits: u64) -> ValueC
     ensures { result ≡ flat_count (count_of (bitmap_of size bits)) }
 {
-    count_c(bitmap_calls::count(Bitmap { size, bits }))
+    ValueC::from(bitmap_calls::count(Bitmap { size, bits }))
 }
 
 // The set of the zeros.
@@ -119,7 +116,7 @@ pub extern "C" fn bitmap_count(size: u8, bits: u64) -> ValueC
 pub extern "C" fn bitmap_flip(size: u8, bits: u64) -> SetC
     ensures { result ≡ flat_set (flip_of (bitmap_of size bits)) }
 {
-    set_c(bitmap_sets::flip(Bitmap { size, bits }))
+    SetC::from(bitmap_sets::flip(Bitmap { size, bits }))
 }
 
 // The set of that size with no id.
@@ -127,7 +124,7 @@ pub extern "C" fn bitmap_flip(size: u8, bits: u64) -> SetC
 pub extern "C" fn bitmap_clear(size: u8, bits: u64) -> SetC
     ensures { result ≡ flat_set (clear_of (bitmap_of size bits)) }
 {
-    set_c(bitmap_sets::clear(Bitmap { size, bits }))
+    SetC::from(bitmap_sets::clear(Bitmap { size, bits }))
 }
 
 // The ones of either set, which have one size.
@@ -140,7 +137,7 @@ pub extern "C" fn bitmap_union(size: u8, bits: u64, other_size: u8, other_bits: 
         size: other_size,
         bits: other_bits,
     };
-    set_c(bitmap_sets::union(b, other))
+    SetC::from(bitmap_sets::union(b, other))
 }
 
 // Whether every one of the other set is a one of the first.
@@ -153,7 +150,7 @@ pub extern "C" fn bitmap_is_superset(size: u8, bits: u64, other_size: u8, other_
         size: other_size,
         bits: other_bits,
     };
-    flag_c(bitmap_sets::is_superset(b, other))
+    ValueC::from(bitmap_sets::is_superset(b, other))
 }
 
 // The set of the ids from start to below end.
@@ -161,7 +158,7 @@ pub extern "C" fn bitmap_is_superset(size: u8, bits: u64, other_size: u8, other_
 pub extern "C" fn bitmap_range(size: u8, start: usize, end: usize) -> SetC
     ensures { result ≡ flat_set (from_range_of size start end) }
 {
-    set_c(bitmap_sets::from_range(size, start, end))
+    SetC::from(bitmap_sets::from_range(size, start, end))
 }
 
 // The set of the ids of the list.
@@ -169,7 +166,7 @@ pub extern "C" fn bitmap_range(size: u8, start: usize, end: usize) -> SetC
 pub extern "C" fn bitmap_list(size: u8, ids: &[u8]) -> SetC
     ensures { result ≡ flat_set (from_ids_of size ids.now) }
 {
-    set_c(bitmap_lists::from_ids(size, ids))
+    SetC::from(bitmap_lists::from_ids(size, ids))
 }
 
 // The ids of the ones, ascending, written into the lent bytes from their start; answers how many.
@@ -178,5 +175,5 @@ pub extern "C" fn bitmap_ones(size: u8, bits: u64, out: &mut [u8]) -> ValueC
     ensures value { result ≡ flat_count (ones_of (bitmap_of size bits) out.old) }
     ensures out_after { out.new ≡ bytes_after_ones (bitmap_of size bits) out.old }
 {
-    count_c(bitmap_lists::ones(Bitmap { size, bits }, out))
+    ValueC::from(bitmap_lists::ones(Bitmap { size, bits }, out))
 }

@@ -6,7 +6,7 @@
 //     o SET  ones into four lent bytes of 255            i SET  the same, one byte of the four lent
 #![tactic(auto)]
 
-use bitmap::{Bitmap, BitmapAnswer, CountAnswer, FlagAnswer};
+use bitmap::{Bitmap, BitmapError};
 use example_answers::{count, flag, mix, refused, set};
 use example_script::{Counts, copy_saying, judge, letter, word, write_counts};
 use std::io;
@@ -15,25 +15,26 @@ use std::io::{BufReader, BufWriter, Read, Write};
 // More lines than the file has.
 const TURNS: u64 = 1000;
 
-fn set_of(a: BitmapAnswer) -> u64 {
+// An answer as a number: the refusal's, or what `of` makes of the rest.
+fn answer<T, F: FnOnce(T) -> u64>(a: Result<T, BitmapError>, of: F) -> u64
+    requires { F.IsAlwaysCallable of }
+{
     match a {
-        BitmapAnswer::Refused(k) => refused(k),
-        BitmapAnswer::Set(b) => set(b),
+        Ok(x) => of(x),
+        Err(e) => refused(e.number()),
     }
 }
 
-fn flag_of(a: FlagAnswer) -> u64 {
-    match a {
-        FlagAnswer::Refused(k) => refused(k),
-        FlagAnswer::Flag(on) => flag(0, on),
-    }
+fn set_of(a: Result<Bitmap, BitmapError>) -> u64 {
+    answer(a, set)
 }
 
-fn count_of(a: CountAnswer) -> u64 {
-    match a {
-        CountAnswer::Refused(k) => refused(k),
-        CountAnswer::Count(n) => count(n as u64),
-    }
+fn flag_of(a: Result<bool, BitmapError>) -> u64 {
+    answer(a, |on| flag(0, on))
+}
+
+fn count_of(a: Result<u8, BitmapError>) -> u64 {
+    answer(a, |n| count(u64::from(n)))
 }
 
 fn read_set(input: &mut impl Read) -> io::Result<Bitmap> {
@@ -94,8 +95,9 @@ fn list(input: &mut impl Read) -> io::Result<u64> {
 
 // The answer, then all four bytes: those past the ids keep their contents, on a refusal every byte does.
 fn with_bytes(answer: u64, bytes: [u8; 4]) -> u64 {
-    let two = mix(mix(answer, bytes[0] as u64), bytes[1] as u64);
-    mix(mix(two, bytes[2] as u64), bytes[3] as u64)
+    bytes
+        .iter()
+        .fold(answer, |so_far, byte| mix(so_far, u64::from(*byte)))
 }
 
 fn ones(input: &mut impl Read) -> io::Result<u64> {
@@ -127,14 +129,9 @@ fn call(input: &mut impl Read) -> io::Result<u64> {
             let size = letter(input)?;
             Ok(set_of(bitmap_calls::new(size, read_flag(input)?)))
         }
-        b's' => with_id(first, input),
-        b'g' => with_id(first, input),
-        b'z' => one_set(first, input),
-        b'k' => one_set(first, input),
-        b'f' => one_set(first, input),
-        b'c' => one_set(first, input),
-        b'u' => two_sets(first, input),
-        b'p' => two_sets(first, input),
+        b's' | b'g' => with_id(first, input),
+        b'z' | b'k' | b'f' | b'c' => one_set(first, input),
+        b'u' | b'p' => two_sets(first, input),
         _ => slices(first, input),
     }
 }

@@ -5,46 +5,17 @@ use mathlib.Core.Bool.{Bool, true, false, ◌&&◌, ◌||◌, cond}
 use mathlib.Core.Logic.{◌⊎◌, inl, inr, ⊎_elim}
 use mathlib.Core.List.{List, [], ◌∷◌, ◌++◌, append-nil, append_assoc}
 use native.Mathlib.Numerals.{add-one}
-use lib.Dec.{eqb, leb, ltb}
+use lib.Dec.{eqb, ltb}
 use native.Mathlib.Omega.{arith}
 use borrow.Author.Tests.{eqb-true, eqb-false, eq-eqb, ltb-true, ltb-false, lt-ltb, le-ltb}
-use lib.ListN.{length, take, drop, get_or, set, length-append, get_or-append}
-use lib.Seq.{take-suc, drop-cons, set-append_seam, get_or-append_seam}
+use lib.ListN.{length, get_or, set, length-append, get_or-append}
+use lib.Seq.{drop-cons, set-append_seam, get_or-append_seam}
+use Rattle.std.specs.List.{list_any}
+use Rattle.std.proofs.lemmas.List.Folds.{list_any-append}
 use Rattle.bitmap.specs.Sets.{one, count_where}
 use Rattle.bitmap.specs.Bitmaps.{bitmap_of, bitmap_where}
-use Rattle.bitmap.specs.Operations.{outside, with_id, listed, ids_below, laid_over}
+use Rattle.bitmap.specs.Operations.{listed, ids_below, laid_over}
 use Rattle.bitmap.proofs.Laws.{ids_where-same}
-use Rattle.bitmap.proofs.Bitmaps.{is_one-below}
-
--- the id at k, then those after it
-pub outside-at : (n : ℕ) (ids : List ℕ) (k : ℕ) → k < length ids → outside n (drop k ids) ≡ (leb n (get_or ids k 0) || outside n (drop (k + 1) ids))
-unfolding outside
-outside-at n ids k h = rw (drop-cons ids k 0 h, add-one)
-
--- one id more at the end
-pub listed-snoc : (ids : List ℕ) (id i : ℕ) → listed (ids ++ (id ∷ [])) i ≡ cond (eqb i id) true (listed ids i)
-unfolding listed
-listed-snoc [] id i = last (eqb i id)
-  where
-    last : (x : Bool) → (x || false) ≡ cond x true false
-    last true = refl
-    last false = refl
-listed-snoc (x ∷ ids) id i = rw (listed-snoc ids id i) (swap (eqb i x) (eqb i id) (listed ids i))
-  where
-    swap : (x y z : Bool) → (x || cond y true z) ≡ cond y true (x || z)
-    swap true true z = refl
-    swap true false z = refl
-    swap false y z = refl
-
--- the set of the first k ids with the next one put in is the set of the first k + 1
-pub put_next : (size : ℕ) (ids : List ℕ) (k : ℕ) → k < length ids → bitmap_where size (with_id (bitmap_where size (listed (take k ids))) (get_or ids k 0) true) ≡ bitmap_where size (listed (take (k + 1) ids))
-put_next size ids k h =
-    let before = listed (take k ids) in
-    let id = get_or ids k 0 in
-    let same : (i : ℕ) → i < size → with_id (bitmap_where size before) id true i ≡ listed (take k ids ++ (id ∷ [])) i =
-    λ i l. rw (is_one-below size before i l, listed-snoc (take k ids) id i) in
-    rw (add-one, take-suc ids k 0 h)
-    (ap (bitmap_of size) (ids_where-same (with_id (bitmap_where size before) id true) (listed (take k ids ++ (id ∷ []))) size same))
 
 -- ---- the ids below n that a test takes, as a list
 -- as many as the count says
@@ -71,16 +42,25 @@ laid_more p i bytes h = rw (add-one, ← length-ids_below p i) (laid_next (p i) 
 
 -- an id more at the end, or none
 listed-if : (x : Bool) (ids : List ℕ) (id i : ℕ) → listed (ids ++ cond x (id ∷ []) []) i ≡ (x && eqb i id || listed ids i)
-listed-if true ids id i = listed-snoc ids id i ∙ same (eqb i id) (listed ids i)
+listed-if x ids id i = rw (list_any-append (eqb i) ids (cond x (id ∷ []) [])) (last x (listed ids i))
   where
-    same : (x y : Bool) → cond x true y ≡ (x || y)
-    same true y = refl
-    same false y = refl
-listed-if false ids id i = rw append-nil
+    swap : (y z : Bool) → (y || (z || false)) ≡ (z || y)
+    swap true true = refl
+    swap true false = refl
+    swap false true = refl
+    swap false false = refl
+
+    off : (y : Bool) → (y || false) ≡ y
+    off true = refl
+    off false = refl
+
+    last : (x y : Bool) → (y || list_any (eqb i) (cond x (id ∷ []) [])) ≡ (x && eqb i id || y)
+    last true y = swap y (eqb i id)
+    last false y = off y
 
 -- the list has the ids below n that the test takes, and no other
 pub listed-ids_below : (p : ℕ → Bool) (n i : ℕ) → listed (ids_below p n) i ≡ (ltb i n && p i)
-unfolding ids_below listed
+unfolding ids_below
 listed-ids_below p zero i = rw (le-ltb i 0 (omega arith))
 listed-ids_below p (suc n) i = rw (listed-if (p n) (ids_below p n) n i, listed-ids_below p n i) (go (eqb i n) refl)
   where

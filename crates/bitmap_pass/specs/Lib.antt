@@ -1,2 +1,2 @@
 -- What the pass over the ids takes and chooses.
-pub mod Rules
+pub mod Tests

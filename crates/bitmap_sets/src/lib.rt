@@ -5,64 +5,52 @@
 ghost use Rattle.std.specs.Prelude.{◌≡◌};
 ghost use Rattle.bitmap.specs.Operations.{flip_of, union_of, is_superset_of, clear_of, from_range_of};
 
-use bitmap::{BAD_ID, BAD_SIZE, Bitmap, BitmapAnswer, FlagAnswer, SIZES_DIFFER, bad_size};
-use bitmap_pass::{Rule, build, choose};
+use bitmap::{Bitmap, BitmapError, check_size, is_one};
+use bitmap_pass::{build, choose};
 
 // The set of the zeros.
-pub fn flip(b: Bitmap) -> BitmapAnswer
+pub fn flip(b: Bitmap) -> Result<Bitmap, BitmapError>
     ensures { result ≡ flip_of b }
 {
-    build(b.size, Rule::Others(b))
+    build(b.size, |i| !is_one(b, i))
 }
 
 // The ones of either set, which have one size.
-pub fn union(b: Bitmap, other: Bitmap) -> BitmapAnswer
+pub fn union(b: Bitmap, other: Bitmap) -> Result<Bitmap, BitmapError>
     ensures { result ≡ union_of b other }
 {
-    if bad_size(b.size) {
-        return BitmapAnswer::Refused(BAD_SIZE);
-    }
-    if bad_size(other.size) {
-        return BitmapAnswer::Refused(BAD_SIZE);
-    }
+    check_size(b.size)?;
+    check_size(other.size)?;
     if b.size != other.size {
-        return BitmapAnswer::Refused(SIZES_DIFFER);
+        return Err(BitmapError::SizesDiffer);
     }
-    build(b.size, Rule::Either(b, other))
+    build(b.size, |i| is_one(b, i) || is_one(other, i))
 }
 
 // Whether every one of the other set is a one of b.
-pub fn is_superset(b: Bitmap, other: Bitmap) -> FlagAnswer
+pub fn is_superset(b: Bitmap, other: Bitmap) -> Result<bool, BitmapError>
     ensures { result ≡ is_superset_of b other }
 {
-    if bad_size(b.size) {
-        return FlagAnswer::Refused(BAD_SIZE);
-    }
-    if bad_size(other.size) {
-        return FlagAnswer::Refused(BAD_SIZE);
-    }
-    let missing = choose(other.size, Rule::Missing(b, other));
-    FlagAnswer::Flag(missing.count == 0)
+    check_size(b.size)?;
+    check_size(other.size)?;
+    let missing = choose(other.size, |i| is_one(other, i) && !is_one(b, i));
+    Ok(missing.count == 0)
 }
 
 // The set of that size with no id.
-pub fn clear(b: Bitmap) -> BitmapAnswer
+pub fn clear(b: Bitmap) -> Result<Bitmap, BitmapError>
     ensures { result ≡ clear_of b }
 {
-    build(b.size, Rule::Every(false))
+    build(b.size, |_| false)
 }
 
 // The set of the ids from start to below end.
-pub fn from_range(size: u8, start: usize, end: usize) -> BitmapAnswer
+pub fn from_range(size: u8, start: usize, end: usize) -> Result<Bitmap, BitmapError>
     ensures { result ≡ from_range_of size start end }
 {
-    if bad_size(size) {
-        return BitmapAnswer::Refused(BAD_SIZE);
+    check_size(size)?;
+    if start < end && usize::from(size) < end {
+        return Err(BitmapError::BadId);
     }
-    if start < end {
-        if (size as usize) < end {
-            return BitmapAnswer::Refused(BAD_ID);
-        }
-    }
-    build(size, Rule::Between(start, end))
+    build(size, |i| (start..end).contains(&i))
 }

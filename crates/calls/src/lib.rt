@@ -3,117 +3,104 @@
 #![tactic(auto)]
 
 ghost use Rattle.std.specs.Prelude.{◌≡◌};
-ghost use Rattle.lease.specs.Calls.{with_time, assume_unknown_grants, advance_to, attempt_refresh, clock_of, set_drift};
-ghost use Rattle.passes.specs.Fits.{ManagerFits};
+ghost use Rattle.lease.specs.Calls.{assume_unknown_grants, advance_to, attempt_refresh, clock_of, set_drift};
 ghost use Rattle.calls.specs.Fits.{NearRows};
+ghost use Rattle.calls.specs.Answers.{answered};
 
+use bitmap::Bitmap;
 use drift::Clock;
 use drift_floats::quotient;
 use fired_order::fired_timers;
-use lease::{
-    AdvanceAnswer, AdvanceOutcome, Advanced, DriftSetting, Manager, Pass, Peer, PeerSet,
-    QuietTimer, RefreshAnswer, SetOutcome,
-};
-use passes::pass_over;
+use lease::{Advanced, Answered, Manager, Refusal};
+use passes::{is_named, pass_over};
 use quiet::{quiet_at, quiet_end, quiet_fires};
+use record_check::CheckedManager;
+use refresh_visits::refresh_row;
+use timed_visits::advance_row;
 use timer::{Reading, drift_of};
 
-// The record with another reading, clock and quiet timer, and other rows.
-fn with_time(
-    m: Manager,
-    now: Reading,
-    clock: Clock,
-    quiet_timer: QuietTimer,
-    peers: [Peer; 64],
-) -> Manager
-    ensures { result ≡ with_time m now clock quiet_timer peers }
+// What a call answers that may be refused: on a refusal the record that went in.
+pub fn answered<T>(m: Manager, done: Result<Answered<T>, Refusal>) -> Answered<T>
+    ensures { result ≡ answered m done }
 {
-    let active_num = m.active_num;
-    Manager {
-        me: m.me,
-        population: m.population,
-        expire_timeout: m.expire_timeout,
-        now,
-        active_num,
-        clock,
-        quiet_timer,
-        peers,
+    match done {
+        Ok(answer) => answer,
+        Err(refusal) => Answered {
+            outcome: Err(refusal),
+            manager: m,
+        },
     }
 }
 
 // The quiet timer is armed for the drifted 2T, replacing an earlier one.
-pub fn start_quiet(m: Manager) -> Manager
-    requires { ManagerFits m }
-    ensures { result ≡ assume_unknown_grants m }
+#[tactic(auto, unfolding(lease::specs::Calls::assume_unknown_grants))]
+pub fn start_quiet(checked: CheckedManager) -> Manager
+    ensures { result ≡ assume_unknown_grants checked.manager }
 {
-    let clock = m.clock;
-    let now = m.now;
-    let by = drift_of(clock, 2 * m.expire_timeout);
-    let quiet_timer = QuietTimer::Until(Reading(now.0 + by));
-    let peers = m.peers;
-    with_time(m, now, clock, quiet_timer, peers)
+    let m = checked.manager;
+    let by = drift_of(m.clock, 2 * m.expire_timeout);
+    Manager {
+        quiet_timer: Some(Reading(m.now.0 + by)),
+        ..m
+    }
 }
 
 // The clock is set, and what is due explodes. The list is made of the rows as they were before.
-pub fn advance_to(m: Manager, to: Reading) -> AdvanceAnswer
-    requires { ManagerFits m }
-    ensures { result ≡ advance_to m to }
+#[tactic(auto, unfolding(lease::specs::Calls::advance_to, lease::specs::Calls::fired_by, lease::specs::Passes::pass_over))]
+pub fn advance_to(checked: CheckedManager, to: Reading) -> Answered<Advanced>
+    ensures { result ≡ advance_to checked.manager to }
 {
-    let peers = m.peers;
-    let p = pass_over(Pass::Advance(to), m.me, m.population, peers);
-    let quiet = m.quiet_timer;
-    let fired = quiet_fires(to, quiet);
-    let quiet_timer = quiet_at(to, quiet);
-    let end = quiet_end(fired, m.me, m.population);
-    let sent = p.first;
-    let held = p.second;
-    let after = p.peers;
-    let fired = fired_timers(peers, sent, held);
-    let clock = m.clock;
-    let manager = with_time(m, to, clock, quiet_timer, after);
-    let outcome = AdvanceOutcome::Fired(sent, held, end);
-    AdvanceAnswer {
-        advanced: Advanced { outcome, fired },
-        manager,
+    let m = checked.manager;
+    let passed = pass_over(|_, row| advance_row(to, row), m.me, m.population, m.peers);
+    let advanced = Advanced {
+        sent: passed.first,
+        held: passed.second,
+        quiet_end: quiet_end(quiet_fires(to, m.quiet_timer), m.me, m.population),
+        fired: fired_timers(m.peers, passed.first, passed.second),
+    };
+    // By a local: an array is not taken over from one struct's field into another's at once.
+    let peers = passed.peers;
+    Answered {
+        outcome: Ok(advanced),
+        manager: Manager {
+            now: to,
+            quiet_timer: quiet_at(to, m.quiet_timer),
+            peers,
+            ..m
+        },
     }
 }
 
 // T is drifted once for all peers.
-pub fn refresh(m: Manager, set: PeerSet) -> RefreshAnswer
-    requires manager_fits { ManagerFits m }
-    requires near_rows { NearRows m }
-    ensures { result ≡ attempt_refresh m set }
+#[tactic(auto, unfolding(lease::specs::Calls::attempt_refresh, crate::specs::Fits::NearRows))]
+pub fn refresh(checked: CheckedManager, set: Option<Bitmap>) -> Answered<Bitmap>
+    requires { NearRows checked.manager }
+    ensures { result ≡ attempt_refresh checked.manager set }
 {
-    let clock = m.clock;
-    let now = m.now;
-    let by = drift_of(clock, m.expire_timeout);
-    let peers = m.peers;
-    let p = pass_over(Pass::Refresh(set, now, by), m.me, m.population, peers);
-    let ids = p.first;
-    let after = p.peers;
-    let mut manager = m;
-    manager.peers = after;
-    RefreshAnswer {
-        outcome: SetOutcome::Ids(ids),
-        manager,
+    let m = checked.manager;
+    let by = drift_of(m.clock, m.expire_timeout);
+    let rule = |i, row| refresh_row(m.now, by, is_named(set, i), row);
+    let passed = pass_over(rule, m.me, m.population, m.peers);
+    // By a local, as above.
+    let peers = passed.peers;
+    Answered {
+        outcome: Ok(passed.first),
+        manager: Manager { peers, ..m },
     }
 }
 
-fn clock_of(setting: DriftSetting) -> Clock
+fn clock_of(setting: Option<i8>) -> Clock
     ensures { result ≡ clock_of setting }
 {
-    match setting {
-        DriftSetting::True => Clock::True,
-        DriftSetting::Drifting(d) => Clock::Drifting(quotient(d)),
-    }
+    setting.map_or(Clock::True, |d| Clock::Drifting(quotient(d)))
 }
 
-pub fn set_clock(m: Manager, setting: DriftSetting) -> Manager
+#[tactic(auto, unfolding(lease::specs::Calls::set_drift))]
+pub fn set_clock(m: Manager, setting: Option<i8>) -> Manager
     ensures { result ≡ set_drift m setting }
 {
-    let clock = clock_of(setting);
-    let now = m.now;
-    let quiet_timer = m.quiet_timer;
-    let peers = m.peers;
-    with_time(m, now, clock, quiet_timer, peers)
+    Manager {
+        clock: clock_of(setting),
+        ..m
+    }
 }

@@ -1,5 +1,6 @@
 -- The two claims of specs/Claims. What is written is read: by cases on the event. What is read is written: by the tests of `is_card` in
 -- their order, each of which says a number where it holds. Assumes nothing.
+use Rattle.std.specs.Prelude.{Option, None, Some}
 use Prim.Native.Nat.{ℕ, ◌/◌, ◌^◌, ◌≤◌, ◌<◌, min}
 use mathlib.Core.Path.{◌≡◌, refl, sym, subst}
 use mathlib.Core.Bool.{Bool, true, false, cond}
@@ -8,10 +9,8 @@ use native.Mathlib.Omega.{arith}
 use lib.Dec.{eqb, leb}
 use borrow.Author.Tests.{eqb-true, eqb-false, leb-true, ltb-true}
 use Rattle.bitmap.specs.Bitmaps as bitmaps
-use Rattle.lease.specs.declared.AcceptBar.{AcceptBar}
-use Rattle.lease.specs.declared.AcceptBar.TheVariants as B
-use Rattle.lease.specs.declared.PeerSet.{PeerSet}
-use Rattle.lease.specs.declared.PeerSet.TheVariants as P
+use Rattle.bitmap.specs.declared.Bitmap.{Bitmap}
+use Rattle.lease.specs.declared.Bar.{Bar}
 use Rattle.lease.specs.declared.LeaseMsg.{LeaseMsg}
 use Rattle.lease.specs.declared.LeaseMsg.TheVariants as M
 use Rattle.lease.specs.declared.LeaseNotice.{LeaseNotice}
@@ -61,31 +60,31 @@ size-of-set size first e =
     let low : size ≤ bitmaps.capacity = leb-true size bitmaps.capacity (both (leb size bitmaps.capacity) (eqb (first / 2 ^ size) 0) e).0 in
     min-eq_left (omega arith)
 
-set-is-card : (set : PeerSet) → carried_set set ≡ true → is_set (set_size set) (set_bits set) ≡ true
+set-is-card : (set : Option Bitmap) → carried_set set ≡ true → is_set (set_size set) (set_bits set) ≡ true
 unfolding carried_set is_set
-set-is-card P.All e = refl
-set-is-card (P.Of b) e = (neither (eqb b.size 0) (is_set b.size (bitmaps.number b)) e).1
+set-is-card None e = refl
+set-is-card (Some b) e = (neither (eqb b.size 0) (is_set b.size (bitmaps.number b)) e).1
 
-set-is-read : (code num peer second : ℕ) (set : PeerSet) → carried_set set ≡ true → peer_set_of (card code num peer (set_size set) (set_bits set) second) ≡ set
+set-is-read : (code num peer second : ℕ) (set : Option Bitmap) → carried_set set ≡ true → peer_set_of (card code num peer (set_size set) (set_bits set) second) ≡ set
 unfolding carried_set peer_set_of
-set-is-read code num peer second P.All e = refl
-set-is-read code num peer second (P.Of b) e =
+set-is-read code num peer second None e = refl
+set-is-read code num peer second (Some b) e =
     let t = neither (eqb b.size 0) (is_set b.size (bitmaps.number b)) e in
     simp (t.0, size-of-set b.size (bitmaps.number b) t.1)
 
-bar-is-card : (bar : AcceptBar) → cond (eqb (bar_flag bar) 0) (eqb (bar_of bar) 0) (eqb (bar_flag bar) 1) ≡ true
-bar-is-card B.None = refl
-bar-is-card (B.Some bar) = refl
+bar-is-card : (bar : Option Bar) → cond (eqb (bar_flag bar) 0) (eqb (bar_of bar) 0) (eqb (bar_flag bar) 1) ≡ true
+bar-is-card None = refl
+bar-is-card (Some bar) = refl
 
-bar-is-read : (code num size first : ℕ) (bar : AcceptBar) → accept_bar_of (card code num (bar_flag bar) size first (bar_of bar)) ≡ bar
+bar-is-read : (code num size first : ℕ) (bar : Option Bar) → accept_bar_of (card code num (bar_flag bar) size first (bar_of bar)) ≡ bar
 unfolding accept_bar_of
-bar-is-read code num size first B.None = refl
-bar-is-read code num size first (B.Some bar) = refl
+bar-is-read code num size first None = refl
+bar-is-read code num size first (Some bar) = refl
 
 msg-is-card : (msg : LeaseMsg) → is_msg_card (msg_kind msg) (msg_first msg) ≡ true
 unfolding is_msg_card
-msg-is-card (M.Guard B.None) = refl
-msg-is-card (M.Guard (B.Some bar)) = refl
+msg-is-card (M.Guard None) = refl
+msg-is-card (M.Guard (Some bar)) = refl
 msg-is-card M.GuardReply = refl
 msg-is-card M.Promise = refl
 msg-is-card (M.PromiseReply true) = refl
@@ -96,8 +95,8 @@ msg-is-card (M.RevokeReply false) = refl
 
 msg-is-read : (num peer : ℕ) (msg : LeaseMsg) → msg_of (card 6 num peer (msg_kind msg) (msg_first msg) 0) ≡ msg
 unfolding msg_of
-msg-is-read num peer (M.Guard B.None) = refl
-msg-is-read num peer (M.Guard (B.Some bar)) = refl
+msg-is-read num peer (M.Guard None) = refl
+msg-is-read num peer (M.Guard (Some bar)) = refl
 msg-is-read num peer M.GuardReply = refl
 msg-is-read num peer M.Promise = refl
 msg-is-read num peer (M.PromiseReply true) = refl

@@ -1,11 +1,9 @@
 -- Document 02, wish 1, the numbers of a card: which six numbers are one, what event they say, what card an event is written as, and
 -- which events a card can carry. Definitions only.
-use Rattle.std.specs.Prelude.{ℕ, ◌+◌, ◌/◌, ◌^◌, Bool, true, false, cond, eqb, leb}
+use Rattle.std.specs.Prelude.{ℕ, ◌+◌, ◌/◌, ◌^◌, Bool, true, false, cond, eqb, leb, Option, None, Some}
 use Rattle.bitmap.specs.Bitmaps as bitmaps
-use Rattle.lease.specs.declared.AcceptBar.{AcceptBar}
-use Rattle.lease.specs.declared.AcceptBar.TheVariants as B
-use Rattle.lease.specs.declared.PeerSet.{PeerSet}
-use Rattle.lease.specs.declared.PeerSet.TheVariants as P
+use Rattle.bitmap.specs.declared.Bitmap.{Bitmap}
+use Rattle.lease.specs.declared.Bar.{Bar}
 use Rattle.lease.specs.declared.LeaseMsg.{LeaseMsg}
 use Rattle.lease.specs.declared.LeaseMsg.TheVariants as M
 use Rattle.lease.specs.declared.LeaseNotice.{LeaseNotice}
@@ -74,22 +72,22 @@ event_of c =
 
 -- ---- the card of an event
 
-abbrev pub set_size : PeerSet → ℕ
-set_size P.All = 0
-set_size (P.Of b) = b.size
+abbrev pub set_size : Option Bitmap → ℕ
+set_size None = 0
+set_size (Some b) = b.size
 
 -- Id i as 2 to the i.
-abbrev pub set_bits : PeerSet → ℕ
-set_bits P.All = 0
-set_bits (P.Of b) = bitmaps.number b
+abbrev pub set_bits : Option Bitmap → ℕ
+set_bits None = 0
+set_bits (Some b) = bitmaps.number b
 
-abbrev pub bar_flag : AcceptBar → ℕ
-bar_flag B.None = 0
-bar_flag (B.Some bar) = 1
+abbrev pub bar_flag : Option Bar → ℕ
+bar_flag None = 0
+bar_flag (Some bar) = 1
 
-abbrev pub bar_of : AcceptBar → ℕ
-bar_of B.None = 0
-bar_of (B.Some bar) = bar.0
+abbrev pub bar_of : Option Bar → ℕ
+bar_of None = 0
+bar_of (Some bar) = bar.0
 
 -- 1 Guard, 2 Guard with bar, 3 GuardReply, 4 Promise, 5 PromiseReply, 6 Revoke, 7 RevokeReply.
 abbrev pub msg_kind : LeaseMsg → ℕ
@@ -124,9 +122,9 @@ card_of (E.Notice num notice) = notice_card num.0 notice
 -- ---- which events a card can carry
 
 -- No set, or one of size 1 to 64 with no one at or above it.
-unfoldable pub carried_set : PeerSet → Bool
-carried_set P.All = true
-carried_set (P.Of b) = cond (eqb b.size 0) false (is_set b.size (bitmaps.number b))
+unfoldable pub carried_set : Option Bitmap → Bool
+carried_set None = true
+carried_set (Some b) = cond (eqb b.size 0) false (is_set b.size (bitmaps.number b))
 
 unfoldable pub carried_notice : LeaseNotice → Bool
 carried_notice (N.NewGrants set bar) = carried_set set

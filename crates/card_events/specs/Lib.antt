@@ -1,3 +1,4 @@
 -- Cards as numbers, and what is claimed of them.
 pub mod Events
+pub mod Refusals
 pub mod Claims

@@ -5,10 +5,11 @@
 
 ghost use Rattle.std.specs.Prelude.{◌≡◌};
 ghost use Rattle.card_events.specs.Events.{card, is_zero, is_set, is_msg_card, is_new_grants, is_do_revoke, is_notice_card, is_card, event_of, set_size, set_bits, bar_flag, bar_of, msg_kind, msg_first, notice_card, card_of, carried_set, carried_notice, carried_event, is_carried};
+ghost use Rattle.card_events.specs.Refusals.{card_refusal_number, called};
 
+use bitmap::Bitmap;
 use host_cards::{CallC, is_flag, lease_notice_of};
-use host_lines::flag_of;
-use lease::{AcceptBar, LeaseMsg, LeaseNotice, LeaseNum, Lines, PeerSet, QuietEnd, ReplicaId};
+use lease::{Bar, LeaseMsg, LeaseNotice, LeaseNum, Line, Lines, Refusal, ReplicaId};
 use timer::Reading;
 
 // What set-up is handed: `new_and_setup`'s arguments.
@@ -29,23 +30,50 @@ pub enum Event {
     Notice(LeaseNum, LeaseNotice),
 }
 
-// A line read as an event, or the number of its refusal.
-#[derive(Clone, Copy)]
-pub enum EventRead {
-    Refused(u8),
-    Event(Event),
+// Why a card is refused.
+#[derive(Clone, Copy, PartialEq, Eq)]
+pub enum CardRefusal {
+    // The line is not six columns of numbers.
+    NotOfForm,
+    // The six numbers are no card.
+    NoCard,
+    // A card before set-up, or a second set-up.
+    OutOfTurn,
+    // Document 01's, of the call that the card says.
+    Call(Refusal),
 }
 
-// What a card gives.
+impl CardRefusal {
+    // The number that the refusal's output line has.
+    pub fn number(self) -> u8
+        ensures { result ≡ card_refusal_number self }
+    {
+        match self {
+            CardRefusal::NotOfForm => 21,
+            CardRefusal::NoCard => 22,
+            CardRefusal::OutOfTurn => 23,
+            CardRefusal::Call(refusal) => refusal.number(),
+        }
+    }
+}
+
+impl From<Refusal> for CardRefusal {
+    ghost from_gives = { called };
+
+    fn from(own: Refusal) -> CardRefusal {
+        CardRefusal::Call(own)
+    }
+}
+
+// What an accepted card gives.
 #[derive(Clone, Copy)]
-pub enum CardOutcome {
-    Refused(u8),
-    // An accepted set-up.
+pub enum CardGiven {
+    // Set-up.
     Done,
     // A notice's actions.
     Acted(Lines),
-    // The active number, the peers whose sent timers fired, those whose held timers fired, and the quiet-end line.
-    Fired(LeaseNum, QuietEnd),
+    // The active number, under which timers fire, and the quiet-end line.
+    Fired(LeaseNum, Option<Line>),
 }
 
 // ---- which numbers are a card: refusal 22
@@ -54,10 +82,11 @@ pub enum CardOutcome {
 fn is_zero(a: u64, b: u64) -> bool
     ensures { result ≡ is_zero a b }
 {
-    if a == 0 { b == 0 } else { false }
+    a == 0 && b == 0
 }
 
 // Size 0 is no set; else it is at most 64, and no one stands at or above it.
+#[tactic(auto, unfolding(crate::specs::Events::is_set))]
 fn is_set(size: u64, first: u64) -> bool
     ensures { result ≡ is_set size first }
 {
@@ -71,63 +100,56 @@ fn is_set(size: u64, first: u64) -> bool
 }
 
 // A message's kind, in size, and its first.
+#[tactic(auto, unfolding(crate::specs::Events::is_msg_card))]
 fn is_msg_card(kind: u64, first: u64) -> bool
     ensures { result ≡ is_msg_card kind first }
 {
     match kind {
-        1 => first == 0,
+        1 | 3 | 4 | 6 => first == 0,
         2 => true,
-        3 => first == 0,
-        4 => first == 0,
-        5 => is_flag(first),
-        6 => first == 0,
-        7 => is_flag(first),
+        5 | 7 => is_flag(first),
         _ => false,
     }
 }
 
+#[tactic(auto, unfolding(crate::specs::Events::is_new_grants))]
 fn is_new_grants(c: CallC) -> bool
     ensures { result ≡ is_new_grants c }
 {
-    if !is_set(c.size, c.first) {
-        return false;
-    }
-    if c.peer == 0 {
-        c.second == 0
-    } else {
-        c.peer == 1
-    }
+    is_set(c.size, c.first)
+        && if c.peer == 0 {
+            c.second == 0
+        } else {
+            c.peer == 1
+        }
 }
 
+#[tactic(auto, unfolding(crate::specs::Events::is_do_revoke))]
 fn is_do_revoke(c: CallC) -> bool
     ensures { result ≡ is_do_revoke c }
 {
-    if !is_set(c.size, c.first) {
-        return false;
-    }
-    is_zero(c.peer, c.second)
+    is_set(c.size, c.first) && is_zero(c.peer, c.second)
 }
 
 // Codes 5 to 8.
+#[tactic(auto, unfolding(crate::specs::Events::is_notice_card))]
 fn is_notice_card(c: CallC) -> bool
     ensures { result ≡ is_notice_card c }
 {
-    let code = c.code;
-    match code {
+    match c.code {
         5 => is_zero(c.peer, c.size) && is_zero(c.first, c.second),
         6 => c.second == 0 && is_msg_card(c.size, c.first),
-        7 => c.size == 0 && is_zero(c.first, c.second),
-        8 => c.size == 0 && is_zero(c.first, c.second),
+        7 | 8 => c.size == 0 && is_zero(c.first, c.second),
         _ => false,
     }
 }
 
 // Whether the six numbers are a card.
+#[tactic(auto, unfolding(crate::specs::Events::is_card))]
 pub fn is_card(c: CallC) -> bool
     ensures { result ≡ is_card c }
 {
-    let code = c.code;
-    match code {
+    match c.code {
         1 => true,
         2 => is_zero(c.peer, c.size) && is_zero(c.first, c.second),
         3 => is_new_grants(c),
@@ -139,6 +161,7 @@ pub fn is_card(c: CallC) -> bool
 // ---- what they say
 
 // The event of a card.
+#[tactic(auto, unfolding(crate::specs::Events::event_of))]
 pub fn event_of(c: CallC) -> Event
     ensures { result ≡ event_of c }
 {
@@ -174,40 +197,28 @@ pub fn six(code: u64, number: u64, peer: u64, size: u64, first: u64, second: u64
     }
 }
 
-fn set_size(set: PeerSet) -> u64
+fn set_size(set: Option<Bitmap>) -> u64
     ensures { result ≡ set_size set }
 {
-    match set {
-        PeerSet::All => 0,
-        PeerSet::Of(b) => b.size as u64,
-    }
+    set.map_or(0, |b| u64::from(b.size))
 }
 
-fn set_bits(set: PeerSet) -> u64
+fn set_bits(set: Option<Bitmap>) -> u64
     ensures { result ≡ set_bits set }
 {
-    match set {
-        PeerSet::All => 0,
-        PeerSet::Of(b) => b.bits,
-    }
+    set.map_or(0, |b| b.bits)
 }
 
-fn bar_flag(bar: AcceptBar) -> u64
+fn bar_flag(bar: Option<Bar>) -> u64
     ensures { result ≡ bar_flag bar }
 {
-    match bar {
-        AcceptBar::None => 0,
-        AcceptBar::Some(_) => 1,
-    }
+    u64::from(bar.is_some())
 }
 
-fn bar_of(bar: AcceptBar) -> u64
+fn bar_of(bar: Option<Bar>) -> u64
     ensures { result ≡ bar_of bar }
 {
-    match bar {
-        AcceptBar::None => 0,
-        AcceptBar::Some(x) => x.0,
-    }
+    bar.map_or(0, |x| x.0)
 }
 
 fn msg_kind(msg: LeaseMsg) -> u64
@@ -228,14 +239,12 @@ fn msg_first(msg: LeaseMsg) -> u64
 {
     match msg {
         LeaseMsg::Guard(bar) => bar_of(bar),
-        LeaseMsg::GuardReply => 0,
-        LeaseMsg::Promise => 0,
-        LeaseMsg::PromiseReply(held) => flag_of(held),
-        LeaseMsg::Revoke => 0,
-        LeaseMsg::RevokeReply(held) => flag_of(held),
+        LeaseMsg::PromiseReply(held) | LeaseMsg::RevokeReply(held) => u64::from(held),
+        LeaseMsg::GuardReply | LeaseMsg::Promise | LeaseMsg::Revoke => 0,
     }
 }
 
+#[tactic(auto, unfolding(crate::specs::Events::notice_card))]
 fn notice_card(number: u64, notice: LeaseNotice) -> CallC
     ensures { result ≡ notice_card number notice }
 {
@@ -264,21 +273,19 @@ fn notice_card(number: u64, notice: LeaseNotice) -> CallC
 }
 
 // The card of an event.
+#[tactic(auto, unfolding(crate::specs::Events::card_of))]
 pub fn card_of(e: Event) -> CallC
     ensures { result ≡ card_of e }
 {
     match e {
-        Event::SetUp(u) => {
-            let now = u.now;
-            six(
-                1,
-                now.0,
-                u.me as u64,
-                u.population as u64,
-                u.expire_timeout,
-                u.heartbeat,
-            )
-        }
+        Event::SetUp(u) => six(
+            1,
+            u.now.0,
+            u.me as u64,
+            u.population as u64,
+            u.expire_timeout,
+            u.heartbeat,
+        ),
         Event::Advance(to) => six(2, to.0, 0, 0, 0, 0),
         Event::Notice(num, notice) => notice_card(num.0, notice),
     }
@@ -287,53 +294,41 @@ pub fn card_of(e: Event) -> CallC
 // ---- which events a card can carry
 
 // No set, or one of size 1 to 64 with no one at or above it.
-fn carried_set(set: PeerSet) -> bool
+#[tactic(auto, unfolding(crate::specs::Events::carried_set))]
+fn carried_set(set: Option<Bitmap>) -> bool
     ensures { result ≡ carried_set set }
 {
-    match set {
-        PeerSet::All => true,
-        PeerSet::Of(b) => {
-            if b.size == 0 {
-                return false;
-            }
-            is_set(b.size as u64, b.bits)
-        }
-    }
+    set.is_none_or(|b| b.size != 0 && is_set(u64::from(b.size), b.bits))
 }
 
+#[tactic(auto, unfolding(crate::specs::Events::carried_notice))]
 fn carried_notice(notice: LeaseNotice) -> bool
     ensures { result ≡ carried_notice notice }
 {
     match notice {
-        LeaseNotice::NewGrants(set, _) => carried_set(set),
-        LeaseNotice::DoRevoke(set) => carried_set(set),
-        LeaseNotice::ClearHeld => true,
-        LeaseNotice::RecvLeaseMsg(_, _) => true,
-        LeaseNotice::GrantTimeout(_) => true,
-        LeaseNotice::LeaseTimeout(_) => true,
+        LeaseNotice::NewGrants(set, _) | LeaseNotice::DoRevoke(set) => carried_set(set),
+        LeaseNotice::ClearHeld
+        | LeaseNotice::RecvLeaseMsg(_, _)
+        | LeaseNotice::GrantTimeout(_)
+        | LeaseNotice::LeaseTimeout(_) => true,
     }
 }
 
+#[tactic(auto, unfolding(crate::specs::Events::carried_event))]
 fn carried_event(e: Event) -> bool
     ensures { result ≡ carried_event e }
 {
     match e {
-        Event::SetUp(_) => true,
-        Event::Advance(_) => true,
+        Event::SetUp(_) | Event::Advance(_) => true,
         Event::Notice(_, notice) => carried_notice(notice),
     }
 }
 
 // Whether a card can carry the event: its sets are proper, and its ids have at most four digits.
+#[tactic(auto, unfolding(crate::specs::Events::is_carried))]
 pub fn is_carried(e: Event) -> bool
     ensures { result ≡ is_carried e }
 {
-    if !carried_event(e) {
-        return false;
-    }
     let c = card_of(e);
-    if c.peer > 9999 {
-        return false;
-    }
-    c.size <= 9999
+    carried_event(e) && c.peer <= 9999 && c.size <= 9999
 }

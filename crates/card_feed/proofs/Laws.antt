@@ -1,5 +1,6 @@
 -- Feeding a chunk at a time: where a chunk ends changes nothing, and the first 73 bytes of a line and how many there are say as much as
 -- the line. Assumes nothing.
+use Rattle.std.specs.Prelude.{Err}
 use Prim.Native.Nat.{ℕ, ◌≤◌, ◌+◌, min}
 use mathlib.Core.Path.{◌≡◌, refl, sym, ap, ◌∙◌}
 use mathlib.Core.Bool.{Bool, true, false}
@@ -10,7 +11,7 @@ use borrow.Author.Tests.{ltb-true, ltb-false, eqb-true, eqb-false, ne_eqb}
 use lib.Dec.{eqb, ltb}
 use lib.ListN.{length, take, length-append, length-set}
 use lib.Seq.{take_all, take-suc-set}
-use Rattle.card_events.specs.declared.EventRead.TheVariants as R
+use Rattle.card_events.specs.declared.CardRefusal.TheVariants.{NotOfForm}
 use Rattle.cards.specs.Cards.{card_read, event_read}
 use Rattle.card_partials.specs.declared.Partial.{Partial}
 use Rattle.card_partials.specs.Partials.{kept_by, partial_read}
@@ -53,7 +54,7 @@ kept p line b h = rw length-append (go (ltb p.filled 73) refl)
         rw e (omega arith, h.1, λ m. absurd (omega arith))
 
 -- a line that is not of 73 bytes is not of the form
-other_length : (line : List ℕ) → eqb (length line) 73 ≡ false → event_read line ≡ R.Refused 21
+other_length : (line : List ℕ) → eqb (length line) 73 ≡ false → event_read line ≡ Err NotOfForm
 unfolding event_read card_read
 other_length line e = rw e
 

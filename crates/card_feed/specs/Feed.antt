@@ -1,7 +1,7 @@
 -- Document 02, wish 1, from bytes to bytes: what a whole input prints, and the same a chunk at a time, as the program reads it. Definitions
 -- only.
-use Rattle.std.specs.Prelude.{ℕ, Bool, true, false, cond, List, [], ◌∷◌, ◌++◌, eqb, leb, length, replicate}
-use Rattle.card_events.specs.declared.EventRead.TheVariants as R
+use Rattle.std.specs.Prelude.{ℕ, Bool, false, cond, List, [], ◌∷◌, ◌++◌, eqb, leb, min, replicate, Err}
+use Rattle.card_events.specs.declared.CardRefusal.TheVariants.{NotOfForm}
 use Rattle.cards.specs.Cards.{event_read}
 use Rattle.card_partials.specs.Partials.{kept_by, partial_read}
 use Rattle.card_sessions.specs.declared.Session.{Session}
@@ -9,7 +9,6 @@ use Rattle.card_sessions.specs.declared.CardAnswer.{CardAnswer}
 use Rattle.card_sessions.specs.Sessions.{blank_session, card_given}
 use Rattle.card_lines.specs.Lines.{outcome_text}
 use Rattle.card_feed.specs.declared.Replay.{Replay}
-use Rattle.card_feed.specs.declared.Fed.{Fed}
 
 -- ---- the whole input
 
@@ -20,7 +19,7 @@ given_text a = outcome_text a.session.cards a.outcome a.fired
 -- What is left of a line that has no newline: nothing, or a line that is not of the form.
 abbrev pub rest_text : Session → List ℕ → List ℕ
 rest_text s [] = []
-rest_text s (b ∷ line) = given_text (card_given s (R.Refused 21))
+rest_text s (b ∷ line) = given_text (card_given s (Err NotOfForm))
 
 -- Byte by byte: `line` is what was read since the last newline. A newline ends the line, which is a card; the next one is taken in the
 -- session that it leaves.
@@ -65,7 +64,7 @@ feed_text r (b ∷ bs) = cond (eqb b 10) (ended_text r ++ feed_text (ended r) bs
 
 -- What the end of the input prints.
 unfoldable pub last_text : Replay → List ℕ
-last_text r = cond (eqb r.partial.filled 0) [] (given_text (card_given r.session (R.Refused 21)))
+last_text r = cond (eqb r.partial.filled 0) [] (given_text (card_given r.session (Err NotOfForm)))
 
 -- Chunk after chunk, then the end: the program's loop.
 unfoldable pub chunks_text : Replay → List (List ℕ) → List ℕ
@@ -78,11 +77,9 @@ chunks_text r (c ∷ cs) = feed_text r c ++ chunks_text (feed_next r c) cs
 abbrev pub has_room : ℕ → ℕ → Bool
 has_room input room = cond (leb input 4096) (leb 512910 room) false
 
-unfoldable pub fed_of : Replay → List ℕ → Fed
-fed_of r input = record { taken = true; written = length (feed_text r input); replay = feed_next r input }
-
-abbrev pub not_fed : Replay → Fed
-not_fed r = record { taken = false; written = 0; replay = r }
+-- How many bytes of a line are held.
+abbrev pub held : Replay → ℕ
+held r = min r.partial.filled 74
 
 -- The end, where there is room for a line.
 unfoldable pub last_bytes : Replay → ℕ → List ℕ

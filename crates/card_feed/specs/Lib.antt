@@ -1,4 +1,3 @@
--- Bytes of cards to bytes of lines, and what is claimed of them; then the same as the code goes.
+-- Bytes of cards to bytes of lines, and what is claimed of them.
 pub mod Feed
 pub mod Claims
-pub mod Turns

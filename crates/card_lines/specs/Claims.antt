@@ -1,10 +1,10 @@
 -- What is claimed of output lines. Each claim is proved in proofs/Laws.antt under the same name in small letters. Statements only.
-use Rattle.std.specs.Prelude.{ℕ, ◌≤◌, ◌≡◌, List, length}
+use Rattle.std.specs.Prelude.{ℕ, ◌≤◌, ◌≡◌, List, length, Some, Result}
 use Rattle.columns.specs.Columns.{max_number}
 use Rattle.lease.specs.declared.FiredTimers.{FiredTimers}
 use Rattle.host_lines.specs.declared.LineC.{LineC}
-use Rattle.card_events.specs.declared.CardOutcome.{CardOutcome}
-use Rattle.card_lines.specs.declared.LineRead.TheVariants as R
+use Rattle.card_events.specs.declared.CardGiven.{CardGiven}
+use Rattle.card_events.specs.declared.CardRefusal.{CardRefusal}
 use Rattle.card_lines.specs.Lines.{line_columns, line_read, outcome_text, room_of}
 
 -- The numbers have room in their columns, and the wide ones are of 64 bits.
@@ -13,14 +13,14 @@ HasRoom l = (l.code ≤ 99) × (l.number ≤ max_number) × (l.peer ≤ 9999) ×
 
 -- Writing a line and reading it back gives that line.
 abbrev pub WrittenIsRead : Type 0
-WrittenIsRead = (l : LineC) → HasRoom l → line_read (line_columns l) ≡ R.Numbers l
+WrittenIsRead = (l : LineC) → HasRoom l → line_read (line_columns l) ≡ Some l
 
 -- A line that is read is the line that its numbers are written as.
 abbrev pub ReadIsWritten : Type 0
-ReadIsWritten = (line : List ℕ) (l : LineC) → line_read line ≡ R.Numbers l → line_columns l ≡ line
+ReadIsWritten = (line : List ℕ) (l : LineC) → line_read line ≡ Some l → line_columns l ≡ line
 
 -- What a card gives has room where `room_of` says.
 abbrev pub Fits : Type 0
 Fits =
-    (card : ℕ) (outcome : CardOutcome) (fired : FiredTimers)
+    (card : ℕ) (outcome : Result CardGiven CardRefusal) (fired : FiredTimers)
     → (length (outcome_text card outcome fired) ≤ room_of outcome) × (room_of outcome ≤ 9030)

@@ -1,23 +1,20 @@
 -- Document 02, wish 1, output lines: code (2 columns), number (21), peer (4), first (21), second (21). What lines a card gives, and how a
 -- line is read back. Definitions only.
-use Rattle.std.specs.Prelude.{ℕ, Bool, false, cond, List, [], ◌∷◌, ◌++◌, eqb, leb, length}
-use Rattle.std.proofs.Math.Seq.{slice}
+use Rattle.std.specs.Prelude.{ℕ, Bool, false, cond, List, [], ◌∷◌, ◌++◌, eqb, leb, length, drop, Option, Some, None, Result, Ok, Err}
+use Rattle.std.specs.List.{between}
 use Rattle.lease.specs.declared.Line.{Line}
 use Rattle.lease.specs.declared.Lines.{Lines}
 use Rattle.lease.specs.declared.Lines.TheVariants as L
 use Rattle.lease.specs.declared.FiredTimer.{FiredTimer}
 use Rattle.lease.specs.declared.FiredTimers.{FiredTimers}
-use Rattle.lease.specs.declared.QuietEnd.{QuietEnd}
-use Rattle.lease.specs.declared.QuietEnd.TheVariants as Q
 use Rattle.lease.specs.Fired.{listed_in}
-use Rattle.columns.specs.declared.Field.{Field}
-use Rattle.columns.specs.Columns.{column, field_of, is_number, number_in}
+use Rattle.columns.specs.Columns.{column, number_of}
 use Rattle.host_lines.specs.declared.LineC.{LineC}
 use Rattle.host_lines.specs.Lines.{line_c, line_of}
-use Rattle.card_events.specs.declared.CardOutcome.{CardOutcome}
-use Rattle.card_events.specs.declared.CardOutcome.TheVariants as O
-use Rattle.card_lines.specs.declared.LineRead.{LineRead}
-use Rattle.card_lines.specs.declared.LineRead.TheVariants as R
+use Rattle.card_events.specs.declared.CardGiven.{CardGiven}
+use Rattle.card_events.specs.declared.CardRefusal.{CardRefusal}
+use Rattle.card_events.specs.declared.CardGiven.TheVariants as O
+use Rattle.card_events.specs.Refusals.{card_refusal_number}
 
 -- ---- lines as bytes
 
@@ -32,6 +29,10 @@ line_text l = line_columns l ++ (10 ∷ [])
 unfoldable pub text_of : List LineC → List ℕ
 text_of [] = []
 text_of (l ∷ ls) = line_text l ++ text_of ls
+
+-- Text laid over the start of bytes.
+abbrev pub laid : List ℕ → List ℕ → List ℕ
+laid text bytes = text ++ drop (length text) bytes
 
 -- ---- the lines of what a card gives. Lines 1 to 13, the actions, are those of `host_lines`
 
@@ -54,26 +55,26 @@ action_lines (L.Two a b) = action_line a ++ action_line b
 action_lines (L.Three a b c) = action_line a ++ action_line b ++ action_line c
 
 -- Behind the fired timers. No card starts quiet time, so that no list of cards from set-up on gives it.
-unfoldable pub quiet_lines : QuietEnd → List LineC
-quiet_lines Q.None = []
-quiet_lines (Q.Given line) = action_line line
+unfoldable pub quiet_lines : Option Line → List LineC
+quiet_lines None = []
+quiet_lines (Some line) = action_line line
 
 -- 20 a refused card: first is the refusal, second the card's number. Set-up prints nothing.
-unfoldable pub outcome_lines : ℕ → CardOutcome → FiredTimers → List LineC
-outcome_lines card (O.Refused k) fired = line_c 20 0 0 k card ∷ []
-outcome_lines card O.Done fired = []
-outcome_lines card (O.Acted lines) fired = action_lines lines
-outcome_lines card (O.Fired num end) fired = fired_lines num.0 (listed_in fired) ++ quiet_lines end
+unfoldable pub outcome_lines : ℕ → Result CardGiven CardRefusal → FiredTimers → List LineC
+outcome_lines card (Err k) fired = line_c 20 0 0 (card_refusal_number k) card ∷ []
+outcome_lines card (Ok O.Done) fired = []
+outcome_lines card (Ok (O.Acted lines)) fired = action_lines lines
+outcome_lines card (Ok (O.Fired num end)) fired = fired_lines num.0 (listed_in fired) ++ quiet_lines end
 
-abbrev pub outcome_text : ℕ → CardOutcome → FiredTimers → List ℕ
+abbrev pub outcome_text : ℕ → Result CardGiven CardRefusal → FiredTimers → List ℕ
 outcome_text card outcome fired = text_of (outcome_lines card outcome fired)
 
 -- How many bytes have room for them: 70 for each line that can come.
-unfoldable pub room_of : CardOutcome → ℕ
-room_of (O.Refused k) = 70
-room_of O.Done = 0
-room_of (O.Acted lines) = 210
-room_of (O.Fired num end) = 9030
+unfoldable pub room_of : Result CardGiven CardRefusal → ℕ
+room_of (Err k) = 70
+room_of (Ok O.Done) = 0
+room_of (Ok (O.Acted lines)) = 210
+room_of (Ok (O.Fired num end)) = 9030
 
 -- ---- writing a line by itself
 
@@ -87,19 +88,14 @@ can_write l room = cond (leb 70 room) (line_fits l) false
 
 -- ---- reading a line back
 
-unfoldable pub all_numbers : Field → Field → Field → Field → Field → Bool
-all_numbers code num peer first second =
-    cond (is_number code) (cond (is_number num) (cond (is_number peer) (cond (is_number first) (is_number second) false) false) false) false
-
-abbrev pub line_in : Field → Field → Field → Field → Field → LineRead
-line_in code num peer first second =
-    cond (all_numbers code num peer first second)
-    (R.Numbers (line_c (number_in code) (number_in num) (number_in peer) (number_in first) (number_in second)))
-    R.NotOfForm
+-- The five numbers of its columns, a number in each.
+abbrev pub numbers_in : Option ℕ → Option ℕ → Option ℕ → Option ℕ → Option ℕ → Option LineC
+numbers_in (Some code) (Some num) (Some peer) (Some first) (Some second) = Some (line_c code num peer first second)
+numbers_in code num peer first second = None
 
 -- A line without its newline: 69 columns, a number in each field.
-unfoldable pub line_read : List ℕ → LineRead
+unfoldable pub line_read : List ℕ → Option LineC
 line_read line =
     cond (eqb (length line) 69)
-    (line_in (field_of (slice 0 2 line)) (field_of (slice 2 23 line)) (field_of (slice 23 27 line)) (field_of (slice 27 48 line)) (field_of (slice 48 69 line)))
-    R.NotOfForm
+    (numbers_in (number_of (between 0 2 line)) (number_of (between 2 23 line)) (number_of (between 23 27 line)) (number_of (between 27 48 line)) (number_of (between 48 69 line)))
+    None

@@ -2,218 +2,185 @@
 // reading one line back. Definitions in specs/Lines, what is claimed of them in specs/Claims.
 #![tactic(auto)]
 
-ghost use Rattle.std.specs.Prelude.{◌+◌, ◌≤◌, ◌≡◌, cond, length};
+ghost use Rattle.std.specs.Prelude.{◌≤◌, ◌≡◌, cond, length, Option};
 ghost use Rattle.std.proofs.lemmas.List.Edits.{sets};
 ghost use Rattle.lease.specs.Fired.{listed_in};
-ghost use Rattle.card_lines.specs.Lines.{line_text, text_of, fired_line, fired_lines, action_line, action_lines, quiet_lines, outcome_text, room_of, line_fits, can_write, all_numbers, line_read};
+ghost use Rattle.card_lines.specs.Lines.{line_text, text_of, laid, fired_line, fired_lines, action_lines, quiet_lines, outcome_text, room_of, line_fits, can_write, line_read};
 
-use card_events::CardOutcome;
-use columns::{Field, field_of, is_number, number_in, put_column};
+use card_events::{CardGiven, CardRefusal};
+use columns::{number_of, put_column};
 use host_lines::{LineC, line_of};
-use lease::{FiredTimer, FiredTimers, Line, Lines, QuietEnd};
+use lease::{FiredTimer, FiredTimers, Line, Lines};
 
 // How long a line is, and with its newline.
 const COLUMNS: usize = 69;
 
 const LINE: usize = 70;
 
-// A line read as five numbers, if it is of the form.
-#[derive(Clone, Copy)]
-pub enum LineRead {
-    NotOfForm,
-    Numbers(LineC),
+// ---- writing: each puts its lines at the start of the bytes, and answers how many bytes they are
+
+// A line with its newline.
+#[tactic(auto, unfolding(crate::specs::Lines::line_text, crate::specs::Lines::line_columns))]
+fn line_text(l: LineC) -> [u8; LINE]
+    ensures { result ≡ line_text l }
+{
+    let mut line = [b'\n'; LINE];
+    let (code, line_left) = line.split_at_mut(2);
+    let (number, line_left) = line_left.split_at_mut(21);
+    let (peer, line_left) = line_left.split_at_mut(4);
+    let (first, line_left) = line_left.split_at_mut(21);
+    let (second, _newline) = line_left.split_at_mut(21);
+    put_column(code, l.code);
+    put_column(number, l.number);
+    put_column(peer, l.peer);
+    put_column(first, l.first);
+    put_column(second, l.second);
+    line
 }
 
-// ---- writing: each puts its lines from the index `at` on, and answers where they end
-
-fn put_line(out: &mut [u8], at: usize, l: LineC) -> usize
-    requires { at + 70 ≤ length out.old }
-    ensures value { result ≡ at + length (line_text l) }
-    ensures out_after { out.new ≡ sets out.old at (line_text l) }
+#[tactic(auto, using(crate::proofs::Text::length_line))]
+fn put_line(out: &mut [u8], l: LineC) -> usize
+    requires { 70 ≤ length out.old }
+    ensures value { result ≡ length (line_text l) }
+    ensures out_after { out.new ≡ laid (line_text l) out.old }
 {
-    put_column(out, at, 2, l.code);
-    put_column(out, at + 2, 21, l.number);
-    put_column(out, at + 23, 4, l.peer);
-    put_column(out, at + 27, 21, l.first);
-    put_column(out, at + 48, 21, l.second);
-    out[at + 69] = b'\n';
-    at + 70
+    let line = line_text(l);
+    out[..LINE].copy_from_slice(&line);
+    LINE
 }
 
-// A fired timer.
-fn put_timer(out: &mut [u8], at: usize, num: u64, t: FiredTimer) -> usize
-    requires { at + 70 ≤ length out.old }
-    ensures value { result ≡ at + length (line_text (fired_line num t)) }
-    ensures out_after { out.new ≡ sets out.old at (line_text (fired_line num t)) }
+// The line of a fired timer.
+fn fired_line(num: u64, t: FiredTimer) -> LineC
+    ensures { result ≡ fired_line num t }
 {
-    let code = if t.held { 15 } else { 14 };
-    let l = LineC {
-        code,
+    LineC {
+        code: if t.held { 15 } else { 14 },
         number: num,
-        peer: t.id as u64,
+        peer: u64::from(t.id),
         first: 0,
         second: 0,
-    };
-    put_line(out, at, l)
+    }
 }
 
 // The timers that fired, in the order of their list.
-fn put_fired(out: &mut [u8], at: usize, num: u64, fired: FiredTimers) -> usize
-    requires { at + 8960 ≤ length out.old }
-    ensures value { result ≡ at + length (text_of (fired_lines num (listed_in fired))) }
-    ensures out_after { out.new ≡ sets out.old at (text_of (fired_lines num (listed_in fired))) }
+#[tactic(auto, using(crate::proofs::Text::laid_behind, crate::proofs::Text::fired_next, crate::proofs::Text::fired_room), unfolding(crate::specs::Lines::fired_lines, crate::specs::Lines::text_of))]
+fn put_fired(out: &mut [u8], num: u64, fired: FiredTimers) -> usize
+    requires { 8960 ≤ length out.old }
+    ensures value { result ≡ length (text_of (fired_lines num (listed_in fired))) }
+    ensures out_after { out.new ≡ laid (text_of (fired_lines num (listed_in fired))) out.old }
 {
-    let mut end = at;
-    let mut k: usize = 0;
-    while k < 128 && k < fired.count {
-        let t = fired.timers[k];
-        end = put_timer(out, end, num, t);
-        k = k + 1;
+    let mut end: usize = 0;
+    let listed = &fired.timers[..fired.count.min(128)];
+    for timer in listed {
+        end += put_line(&mut out[end..], fired_line(num, *timer));
     }
     end
 }
 
-// A numbered action.
-fn put_action(out: &mut [u8], at: usize, line: Line) -> usize
-    requires { at + 70 ≤ length out.old }
-    ensures value { result ≡ at + length (text_of (action_line line)) }
-    ensures out_after { out.new ≡ sets out.old at (text_of (action_line line)) }
-{
-    let l = line_of(line);
-    put_line(out, at, l)
-}
-
 // A notice's actions, in order.
-fn put_actions(out: &mut [u8], at: usize, lines: Lines) -> usize
-    requires { at + 210 ≤ length out.old }
-    ensures value { result ≡ at + length (text_of (action_lines lines)) }
-    ensures out_after { out.new ≡ sets out.old at (text_of (action_lines lines)) }
+#[tactic(auto, using(crate::proofs::Text::text_of_one, crate::proofs::Text::first_laid), unfolding(crate::specs::Lines::action_lines, crate::specs::Lines::text_of))]
+fn put_actions(out: &mut [u8], lines: Lines) -> usize
+    requires { 210 ≤ length out.old }
+    ensures value { result ≡ length (text_of (action_lines lines)) }
+    ensures out_after { out.new ≡ laid (text_of (action_lines lines)) out.old }
 {
     match lines {
-        Lines::None => at,
-        Lines::One(a) => put_action(out, at, a),
+        Lines::None => 0,
+        Lines::One(a) => put_line(out, line_of(a)),
         Lines::Two(a, b) => {
-            let second = put_action(out, at, a);
-            put_action(out, second, b)
+            let (first, second) = out.split_at_mut(LINE);
+            put_line(first, line_of(a)) + put_line(second, line_of(b))
         }
         Lines::Three(a, b, c) => {
-            let second = put_action(out, at, a);
-            let third = put_action(out, second, b);
-            put_action(out, third, c)
+            let (first, behind) = out.split_at_mut(LINE);
+            let (second, third) = behind.split_at_mut(LINE);
+            put_line(first, line_of(a)) + put_line(second, line_of(b)) + put_line(third, line_of(c))
         }
     }
 }
 
 // The quiet-end line, if there is one.
-fn put_quiet_end(out: &mut [u8], at: usize, end: QuietEnd) -> usize
-    requires { at + 70 ≤ length out.old }
-    ensures value { result ≡ at + length (text_of (quiet_lines end)) }
-    ensures out_after { out.new ≡ sets out.old at (text_of (quiet_lines end)) }
+#[tactic(auto, using(crate::proofs::Text::text_of_one), unfolding(crate::specs::Lines::quiet_lines, crate::specs::Lines::text_of))]
+fn put_quiet_end(out: &mut [u8], end: Option<Line>) -> usize
+    requires { 70 ≤ length out.old }
+    ensures value { result ≡ length (text_of (quiet_lines end)) }
+    ensures out_after { out.new ≡ laid (text_of (quiet_lines end)) out.old }
 {
     match end {
-        QuietEnd::None => at,
-        QuietEnd::Given(line) => put_action(out, at, line),
+        None => 0,
+        Some(line) => put_line(out, line_of(line)),
     }
 }
 
 // The lines of what the card of that number gives.
+#[tactic(auto, using(crate::proofs::Text::text_of_one, crate::proofs::Text::laid_behind, crate::proofs::Text::text_of_both, crate::proofs::Text::length_both, crate::proofs::Text::fired_end), unfolding(crate::specs::Lines::room_of, crate::specs::Lines::outcome_lines, crate::specs::Lines::text_of))]
 pub fn put_outcome(
     out: &mut [u8],
-    at: usize,
     card: u64,
-    outcome: CardOutcome,
+    outcome: Result<CardGiven, CardRefusal>,
     fired: FiredTimers,
 ) -> usize
-    requires { at + room_of outcome ≤ length out.old }
-    ensures value { result ≡ at + length (outcome_text card outcome fired) }
-    ensures out_after { out.new ≡ sets out.old at (outcome_text card outcome fired) }
+    requires { room_of outcome ≤ length out.old }
+    ensures value { result ≡ length (outcome_text card outcome fired) }
+    ensures out_after { out.new ≡ laid (outcome_text card outcome fired) out.old }
 {
     match outcome {
-        CardOutcome::Refused(code) => {
+        Err(refusal) => {
             let l = LineC {
                 code: 20,
                 number: 0,
                 peer: 0,
-                first: code as u64,
+                first: u64::from(refusal.number()),
                 second: card,
             };
-            put_line(out, at, l)
+            put_line(out, l)
         }
-        CardOutcome::Done => at,
-        CardOutcome::Acted(lines) => put_actions(out, at, lines),
-        CardOutcome::Fired(num, end) => {
-            let end_at = put_fired(out, at, num.0, fired);
-            put_quiet_end(out, end_at, end)
+        Ok(CardGiven::Done) => 0,
+        Ok(CardGiven::Acted(lines)) => put_actions(out, lines),
+        Ok(CardGiven::Fired(num, end)) => {
+            let fired_end = put_fired(out, num.0, fired);
+            fired_end + put_quiet_end(&mut out[fired_end..], end)
         }
     }
 }
 
 // Whether the numbers have room in their columns.
+#[tactic(auto, unfolding(crate::specs::Lines::line_fits))]
 fn line_fits(l: LineC) -> bool
     ensures { result ≡ line_fits l }
 {
-    if l.code > 99 {
-        return false;
-    }
-    l.peer <= 9999
+    l.code <= 99 && l.peer <= 9999
 }
 
 // Writes a line with its newline at the start of the bytes, and answers true; or answers false and writes nothing, where
 // the numbers have no room in their columns or the line has none in the bytes.
+#[tactic(auto, using(crate::proofs::Text::line_laid), unfolding(crate::specs::Lines::can_write))]
 pub fn write_line(l: LineC, out: &mut [u8]) -> bool
     ensures value { result ≡ can_write l (length out.old) }
     ensures out_after { out.new ≡ cond (can_write l (length out.old)) (sets out.old 0 (line_text l)) out.old }
 {
-    if out.len() < LINE {
+    if out.len() < LINE || !line_fits(l) {
         return false;
     }
-    if !line_fits(l) {
-        return false;
-    }
-    let _end = put_line(out, 0, l);
+    let _length = put_line(out, l);
     true
 }
 
 // ---- reading
 
-fn all_numbers(code: Field, number: Field, peer: Field, first: Field, second: Field) -> bool
-    ensures { result ≡ all_numbers code number peer first second }
-{
-    if !is_number(code) {
-        return false;
-    }
-    if !is_number(number) {
-        return false;
-    }
-    if !is_number(peer) {
-        return false;
-    }
-    if !is_number(first) {
-        return false;
-    }
-    is_number(second)
-}
-
-// The five numbers of a line, which is handed in without its newline.
-pub fn read_line(line: &[u8]) -> LineRead
+// The five numbers of a line, which is handed in without its newline; none where the line is not of the form.
+#[tactic(auto, unfolding(crate::specs::Lines::line_read))]
+pub fn read_line(line: &[u8]) -> Option<LineC>
     ensures { result ≡ line_read line.now }
 {
     if line.len() != COLUMNS {
-        return LineRead::NotOfForm;
+        return None;
     }
-    let code = field_of(line, 0, 2);
-    let number = field_of(line, 2, 23);
-    let peer = field_of(line, 23, 27);
-    let first = field_of(line, 27, 48);
-    let second = field_of(line, 48, 69);
-    if !all_numbers(code, number, peer, first, second) {
-        return LineRead::NotOfForm;
-    }
-    LineRead::Numbers(LineC {
-        code: number_in(code),
-        number: number_in(number),
-        peer: number_in(peer),
-        first: number_in(first),
-        second: number_in(second),
+    Some(LineC {
+        code: number_of(&line[..2])?,
+        number: number_of(&line[2..23])?,
+        peer: number_of(&line[23..27])?,
+        first: number_of(&line[27..48])?,
+        second: number_of(&line[48..69])?,
     })
 }

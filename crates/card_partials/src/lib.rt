@@ -2,10 +2,10 @@
 // specs/Partials.
 #![tactic(auto)]
 
-ghost use Rattle.std.specs.Prelude.{◌+◌, ◌≤◌, ◌≡◌, length, drop};
-ghost use Rattle.card_partials.specs.Partials.{kept_by, partial_read, fill_next, line_end};
+ghost use Rattle.std.specs.Prelude.{◌≡◌};
+ghost use Rattle.card_partials.specs.Partials.{kept_by, partial_read};
 
-use card_events::EventRead;
+use card_events::{CardRefusal, Event};
 use cards::read_event;
 
 // A card's columns.
@@ -16,61 +16,31 @@ const COLUMNS: usize = 73;
 #[derive(Clone, Copy)]
 pub struct Partial {
     pub filled: usize,
-    pub columns: [u8; 73],
+    pub columns: [u8; COLUMNS],
 }
 
-// The line with the bytes up to a newline or the end, and where that is.
-#[derive(Clone, Copy)]
-pub struct Filled {
-    pub partial: Partial,
-    pub at: usize,
-}
-
-// The line with one byte more.
-fn keep(p: Partial, b: u8) -> Partial
-    ensures { result ≡ kept_by p b }
-{
-    let at = p.filled;
-    let mut columns = p.columns;
-    if at < COLUMNS {
-        columns[at] = b;
-        return Partial {
-            filled: at + 1,
-            columns,
-        };
-    }
-    Partial {
-        filled: 74,
-        columns,
-    }
-}
-
-// The line with the bytes from `from` on, up to a newline or the end.
-pub fn fill(p: Partial, input: &[u8], from: usize) -> Filled
-    requires { from ≤ length input.now }
-    ensures partial_value { result.partial ≡ fill_next p (drop from input.now) }
-    ensures at_value { result.at ≡ from + line_end (drop from input.now) }
-{
-    let mut partial = p;
-    let mut i: usize = from;
-    while i < input.len() {
-        let b = input[i];
-        if b == b'\n' {
-            return Filled { partial, at: i };
+impl Partial {
+    // One byte more.
+    #[tactic(auto, unfolding(crate::specs::Partials::kept_by))]
+    pub fn push(&mut self, b: u8)
+        ensures { self.new ≡ kept_by self.old b }
+    {
+        if self.filled < COLUMNS {
+            self.columns[self.filled] = b;
+            self.filled += 1;
+        } else {
+            self.filled = 74;
         }
-        partial = keep(partial, b);
-        i = i + 1;
     }
-    Filled { partial, at: i }
-}
 
-// The line so far, read as a card: it ends here.
-pub fn read_partial(p: Partial) -> EventRead
-    ensures { result ≡ partial_read p }
-{
-    if p.filled == COLUMNS {
-        let columns = p.columns;
-        return read_event(&columns);
+    // The line so far, read as a card: it ends here.
+    #[tactic(auto, unfolding(crate::specs::Partials::partial_read))]
+    pub fn read(&self) -> Result<Event, CardRefusal>
+        ensures { result ≡ partial_read self.now }
+    {
+        if self.filled == COLUMNS {
+            return read_event(&self.columns);
+        }
+        Err(CardRefusal::NotOfForm)
     }
-    EventRead::Refused(21)
 }

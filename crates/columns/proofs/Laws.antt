@@ -8,11 +8,14 @@ use native.Mathlib.Numerals.{add-one}
 use native.Mathlib.Omega.{arith}
 use lib.Dec.{eqb, leb}
 use lib.ListN.{length, length-append}
-use lib.Seq.{append_snoc, slice, length-slice}
+use lib.Seq.{append_snoc}
+use Rattle.std.specs.List.{between}
+use Rattle.std.proofs.lemmas.List.Edits.{length-between}
 use borrow.Author.Tests.{eqb-true, eqb-false, ne_eqb, leb-true, le-leb}
 use Rattle.columns.specs.declared.Field.{Field}
 use Rattle.columns.specs.declared.Field.TheVariants as F
-use Rattle.columns.specs.Columns.{places, column, max_number, first_byte, next_byte, field_step, field_from, is_number, number_in}
+use Rattle.std.specs.Prelude.{Some}
+use Rattle.columns.specs.Columns.{places, column, max_number, first_byte, next_byte, field_step, field_from, number_in, number_of}
 use Rattle.columns.specs.Claims.{WrittenIsRead, ReadIsWritten}
 
 -- ---- reading in parts
@@ -75,14 +78,14 @@ places-read (suc w) n h m =
     go false e = let ne = eqb-false n 0 e in rw e (last-digit n (omega arith) m)
 
 pub written-is-read : WrittenIsRead
-unfolding column field_step first_byte before is_number number_in
+unfolding column field_step first_byte before number_in
 written-is-read w n h m =
     rw (field_from-snoc F.Blank (places w (n / 10)), places-read w (n / 10) (tens-below w n h) (omega arith))
     (go (eqb n 0) refl)
   where
-    go : (x : Bool) → eqb n 0 ≡ x → (is_number (field_step (before (n / 10)) (48 + n % 10)) ≡ true) × (number_in (field_step (before (n / 10)) (48 + n % 10)) ≡ n)
-    go true e = rw (eqb-true n 0 e) (refl, refl)
-    go false e = let ne = eqb-false n 0 e in rw (last-digit n (omega arith) m) (refl, refl)
+    go : (x : Bool) → eqb n 0 ≡ x → number_in (field_step (before (n / 10)) (48 + n % 10)) ≡ Some n
+    go true e = rw (eqb-true n 0 e) refl
+    go false e = let ne = eqb-false n 0 e in rw (last-digit n (omega arith) m) refl
 
 -- ---- what is read is what is written
 
@@ -156,68 +159,79 @@ unfolding field_from
 reads-from [] f pre r = rw append-nil r
 reads-from (b ∷ bs) f pre r = rw append_snoc at (reads-from bs (field_step f b) (pre ++ (b ∷ [])) (reads-step f b pre r))
 
-reads-number : (f : Field) (bs : List ℕ) → Reads f bs → is_number f ≡ true → (column (length bs) (number_in f) ≡ bs) × (number_in f ≤ max_number)
-unfolding Reads is_number number_in
-reads-number F.Blank bs r e = let z : ◌≡◌ {A = ℕ} 0 1 = cc in absurd (omega arith)
-reads-number F.Zero bs r e = (sym r, omega arith)
-reads-number (F.Number v) bs r e = (sym (r.0 ∙ places-column (length bs) v r.1), r.2)
-reads-number F.Bad bs r e = let z : ◌≡◌ {A = ℕ} 0 1 = cc in absurd (omega arith)
+reads-number : (f : Field) (bs : List ℕ) (n : ℕ) → Reads f bs → number_in f ≡ Some n → (column (length bs) n ≡ bs) × (n ≤ max_number)
+unfolding Reads number_in
+reads-number F.Blank bs n r e = absurd cc
+reads-number F.Zero bs n r e = let z : 0 ≡ n = cc in rw (← z) (sym r, omega arith)
+reads-number (F.Number v) bs n r e = let z : v ≡ n = cc in rw (← z) (sym (r.0 ∙ places-column (length bs) v r.1), r.2)
+reads-number F.Bad bs n r e = absurd cc
 
 pub read-is-written : ReadIsWritten
 unfolding Reads places
-read-is-written bs e = reads-number (field_from F.Blank bs) bs (reads-from bs F.Blank [] refl) e
+read-is-written bs n e = reads-number (field_from F.Blank bs) bs n (reads-from bs F.Blank [] refl) e
 
 -- ---- a number that is read has no more digits than bytes
 
-first_below : (b k : ℕ) → 0 < k → number_in (first_byte b) < k * 10
-unfolding first_byte number_in
+-- the number read so far
+value_in : Field → ℕ
+value_in (F.Number v) = v
+value_in f = 0
+
+first_below : (b k : ℕ) → 0 < k → value_in (first_byte b) < k * 10
+unfolding first_byte value_in
 first_below b k l = go (eqb b 32) (eqb b 48) (leb 48 b) (leb b 57) refl
   where
-    go : (x y u t : Bool) → leb b 57 ≡ t → number_in (cond x F.Blank (cond y F.Zero (cond (cond u t false) (F.Number (b - 48)) F.Bad))) < k * 10
+    go : (x y u t : Bool) → leb b 57 ≡ t → value_in (cond x F.Blank (cond y F.Zero (cond (cond u t false) (F.Number (b - 48)) F.Bad))) < k * 10
     go true y u t e = omega arith
     go false true u t e = omega arith
     go false false true true e = let high = leb-true b 57 e in omega arith
     go false false true false e = omega arith
     go false false false t e = omega arith
 
-next-below : (v b k : ℕ) → v < k → number_in (next_byte v b) < k * 10
-unfolding next_byte number_in
+next-below : (v b k : ℕ) → v < k → value_in (next_byte v b) < k * 10
+unfolding next_byte value_in
 next-below v b k l = go (leb 48 b) (leb b 57) (leb (v * 10 + (b - 48)) max_number) refl
   where
-    go : (u t m : Bool) → leb b 57 ≡ t → number_in (cond (cond u t false) (cond m (F.Number (v * 10 + (b - 48))) F.Bad) F.Bad) < k * 10
+    go : (u t m : Bool) → leb b 57 ≡ t → value_in (cond (cond u t false) (cond m (F.Number (v * 10 + (b - 48))) F.Bad) F.Bad) < k * 10
     go true true true e = let high = leb-true b 57 e in omega arith
     go true true false e = omega arith
     go true false m e = omega arith
     go false t m e = omega arith
 
-step-below : (f : Field) (b k : ℕ) → number_in f < k → number_in (field_step f b) < k * 10
-unfolding field_step number_in
+step-below : (f : Field) (b k : ℕ) → value_in f < k → value_in (field_step f b) < k * 10
+unfolding field_step value_in
 step-below F.Blank b k l = first_below b k (omega arith)
 step-below F.Zero b k l = omega arith
 step-below (F.Number v) b k l = next-below v b k l
 step-below F.Bad b k l = omega arith
 
-from-below : (bs : List ℕ) (f : Field) (k : ℕ) → number_in f < 10 ^ k → number_in (field_from f bs) < 10 ^ (k + length bs)
+from-below : (bs : List ℕ) (f : Field) (k : ℕ) → value_in f < 10 ^ k → value_in (field_from f bs) < 10 ^ (k + length bs)
 unfolding field_from
 from-below [] f k l = rw add-zero l
 from-below (b ∷ bs) f k l =
     rw (add-suc k (length bs), ← suc-add k (length bs))
     (from-below bs (field_step f b) (suc k) (rw (pow-suc 10 k) (step-below f b (10 ^ k) l)))
 
-pub number-below : (bs : List ℕ) → number_in (field_from F.Blank bs) < 10 ^ length bs
-unfolding number_in
-number-below bs = rw (← zero-add (length bs)) (from-below bs F.Blank 0 (omega arith))
+pub number-below : (bs : List ℕ) (n : ℕ) → number_of bs ≡ Some n → n < 10 ^ length bs
+unfolding number_in value_in
+number-below bs n e = go (field_from F.Blank bs) (rw zero-add at (from-below bs F.Blank 0 (omega arith))) e
+  where
+    go : (f : Field) → value_in f < 10 ^ length bs → number_in f ≡ Some n → n < 10 ^ length bs
+    go F.Blank l q = absurd cc
+    go F.Zero l q = let z : 0 ≡ n = cc in rw (← z) l
+    go (F.Number v) l q = let z : v ≡ n = cc in rw (← z) l
+    go F.Bad l q = absurd cc
 
 -- ---- a part of a line that is read as a number
 
-module _ (f w : ℕ) (line : List ℕ) (h : f + w ≤ length line) where
-  length_part : length (slice f (f + w) line) ≡ w
-  length_part = length-slice f (f + w) line h ∙ omega arith
+module _ (f w n : ℕ) (line : List ℕ) (h : f + w ≤ length line) (e : number_of (between f (f + w) line) ≡ Some n) where
+  length_part : length (between f (f + w) line) ≡ w
+  length_part = length-between line f (f + w) h ∙ omega arith
 
   -- it is that number's column
-  pub part-written : is_number (field_from F.Blank (slice f (f + w) line)) ≡ true → column w (number_in (field_from F.Blank (slice f (f + w) line))) ≡ slice f (f + w) line
-  part-written e = rw length_part at (read-is-written (slice f (f + w) line) e).0
+  pub part-written : column w n ≡ between f (f + w) line
+  part-written = rw length_part at (read-is-written (between f (f + w) line) n e).0
 
   -- and has no more digits than columns
-  pub part-below : number_in (field_from F.Blank (slice f (f + w) line)) < 10 ^ w
-  part-below = rw length_part at (number-below (slice f (f + w) line))
+  pub part-below : n < 10 ^ w
+  part-below = rw length_part at (number-below (between f (f + w) line) n e)

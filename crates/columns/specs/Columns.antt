@@ -1,6 +1,6 @@
 -- A decimal number in fixed columns: how it is written, and how bytes are read. A byte is its ASCII number: 32 a blank, 48 to 57 the
 -- digits. Definitions only.
-use Rattle.std.specs.Prelude.{ℕ, zero, suc, ◌+◌, ◌*◌, ◌-◌, ◌/◌, ◌%◌, Bool, true, false, cond, List, [], ◌∷◌, ◌++◌, eqb, leb}
+use Rattle.std.specs.Prelude.{ℕ, zero, suc, ◌+◌, ◌*◌, ◌-◌, ◌/◌, ◌%◌, Bool, false, cond, List, [], ◌∷◌, ◌++◌, eqb, leb, Option, Some, None}
 use Rattle.columns.specs.declared.Field.{Field}
 use Rattle.columns.specs.declared.Field.TheVariants as F
 
@@ -58,14 +58,13 @@ field_from f (b ∷ bs) = field_from (field_step f b) bs
 abbrev pub field_of : List ℕ → Field
 field_of bs = field_from F.Blank bs
 
-unfoldable pub is_number : Field → Bool
-is_number F.Blank = false
-is_number F.Zero = true
-is_number (F.Number v) = true
-is_number F.Bad = false
+-- The number, where there is one.
+unfoldable pub number_in : Field → Option ℕ
+number_in F.Blank = None
+number_in F.Zero = Some 0
+number_in (F.Number v) = Some v
+number_in F.Bad = None
 
-unfoldable pub number_in : Field → ℕ
-number_in F.Blank = 0
-number_in F.Zero = 0
-number_in (F.Number v) = v
-number_in F.Bad = 0
+-- The number in these columns, where they hold one.
+abbrev pub number_of : List ℕ → Option ℕ
+number_of bs = number_in (field_of bs)

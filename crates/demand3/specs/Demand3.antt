@@ -2,30 +2,16 @@
 -- included, each on the record that the last one returned or left, the program's grant set, lease set and lease count, and the count of
 -- Promise lines, are what the log of the rules' actions says. A step is what an exported call's contract ensures (CallContracts); the log is
 -- the rules' own over the same calls, and is told nothing of the program (lease_log/specs/Log). Definitions only; proved in proofs/Demand3.
-use Rattle.std.specs.Prelude.{◌≡◌, List, ℕ}
+use Rattle.std.specs.Prelude.{◌≡◌, List, ℕ, Option, Result, Ok, Err, ℤ}
+use Rattle.lease.specs.declared.Answered.{Answered}
+use Rattle.lease.specs.declared.Refusal.{Refusal}
+use Rattle.lease.specs.declared.Lines.{Lines}
+use Rattle.bitmap.specs.declared.Bitmap.{Bitmap}
 use Rattle.timer.specs.declared.Reading.{Reading}
-use Rattle.lease.specs.declared.PeerSet.{PeerSet}
 use Rattle.lease.specs.declared.LeaseNum.{LeaseNum}
 use Rattle.lease.specs.declared.LeaseNotice.{LeaseNotice}
-use Rattle.lease.specs.declared.DriftSetting.{DriftSetting}
 use Rattle.lease.specs.declared.Manager.{Manager}
-use Rattle.lease.specs.declared.NoticeOutcome.{NoticeOutcome}
-use Rattle.lease.specs.declared.NoticeOutcome.TheVariants as NO
-use Rattle.lease.specs.declared.AdvanceOutcome.{AdvanceOutcome}
-use Rattle.lease.specs.declared.AdvanceOutcome.TheVariants as AO
-use Rattle.lease.specs.declared.PlainOutcome.{PlainOutcome}
-use Rattle.lease.specs.declared.PlainOutcome.TheVariants as PO
-use Rattle.lease.specs.declared.SetOutcome.{SetOutcome}
-use Rattle.lease.specs.declared.SetOutcome.TheVariants as SO
-use Rattle.lease.specs.declared.CountOutcome.{CountOutcome}
-use Rattle.lease.specs.declared.TimeLeftOutcome.{TimeLeftOutcome}
-use Rattle.lease.specs.declared.SetUpOutcome.TheVariants.{Done}
-use Rattle.lease.specs.declared.SetUpAnswer.{SetUpAnswer}
-use Rattle.lease.specs.declared.NoticeAnswer.{NoticeAnswer}
 use Rattle.lease.specs.declared.Advanced.{Advanced}
-use Rattle.lease.specs.declared.AdvanceAnswer.{AdvanceAnswer}
-use Rattle.lease.specs.declared.PlainAnswer.{PlainAnswer}
-use Rattle.lease.specs.declared.RefreshAnswer.{RefreshAnswer}
 use Rattle.lease.specs.Verdicts.{Call, notice, advance, quiet-start, refresh, drift, grant-set, lease-set, lease-cnt, time-left}
 use Rattle.lease_log.specs.Demand3.{Typed, AllTyped, run_of}
 use Rattle.lease_log.specs.Program.{Chain, Answers}
@@ -33,42 +19,30 @@ use Rattle.demand3.specs.CallContracts.{NewAndSetup, AddNotice, Advance, AssumeU
 
 -- ---- the record of the next call, by value: the one returned; after a refusal the one that went in
 
-abbrev pub after_notice : Manager → NoticeOutcome → Manager → Manager
-after_notice m (NO.Refused k) m' = m
-after_notice m (NO.Done lines) m' = m'
-
-abbrev pub after_advance : Manager → AdvanceOutcome → Manager → Manager
-after_advance m (AO.Refused k) m' = m
-after_advance m (AO.Fired sent held quiet) m' = m'
-
-abbrev pub after_plain : Manager → PlainOutcome → Manager → Manager
-after_plain m (PO.Refused k) m' = m
-after_plain m PO.Done m' = m'
-
-abbrev pub after_set : Manager → SetOutcome → Manager → Manager
-after_set m (SO.Refused k) m' = m
-after_set m (SO.Ids set) m' = m'
+abbrev pub after : {T : Type 0} → Manager → Result T Refusal → Manager → Manager
+after m (Err k) m' = m
+after m (Ok answer) m' = m'
 
 -- ---- one call: what its contract ensures of its result r, and the record of the next call
 
 pub data Step (m : Manager) : Call → Manager → Type 0 where
   -- by value
-  adds-notice : (num : LeaseNum) (x : LeaseNotice) (r : NoticeAnswer) → AddNotice m num x r → Step m (notice num x) (after_notice m r.outcome r.manager)
-  advances : (to : Reading) (r : AdvanceAnswer) → Advance m to r → Step m (advance to) (after_advance m r.advanced.outcome r.manager)
-  assumes-unknown-grants : (r : PlainAnswer) → AssumeUnknownGrants m r → Step m quiet-start (after_plain m r.outcome r.manager)
-  attempts-refresh : (set : PeerSet) (r : RefreshAnswer) → AttemptRefresh m set r → Step m (refresh set) (after_set m r.outcome r.manager)
+  adds-notice : (num : LeaseNum) (x : LeaseNotice) (r : Answered Lines) → AddNotice m num x r → Step m (notice num x) (after m r.outcome r.manager)
+  advances : (to : Reading) (r : Answered Advanced) → Advance m to r → Step m (advance to) (after m r.outcome r.manager)
+  assumes-unknown-grants : (r : Answered (Unit {0})) → AssumeUnknownGrants m r → Step m quiet-start (after m r.outcome r.manager)
+  attempts-refresh : (set : Option Bitmap) (r : Answered Bitmap) → AttemptRefresh m set r → Step m (refresh set) (after m r.outcome r.manager)
   -- the setting is an i8, as the function's type says
-  sets-drift : (x : DriftSetting) → Typed (drift x) → (r : PlainAnswer) → SetDrift m x r → Step m (drift x) (after_plain m r.outcome r.manager)
+  sets-drift : (x : Option ℤ) → Typed (drift x) → (r : Answered (Unit {0})) → SetDrift m x r → Step m (drift x) (after m r.outcome r.manager)
   -- lent
-  adds-notice-lent : (num : LeaseNum) (x : LeaseNotice) (r : NoticeOutcome) (m' : Manager) → AddNoticeLent m num x r m' → Step m (notice num x) m'
-  advances-lent : (to : Reading) (r : Advanced) (m' : Manager) → AdvanceLent m to r m' → Step m (advance to) m'
-  adds-notice-lending : (num : LeaseNum) (x : LeaseNotice) (r : NoticeAnswer) → AddNoticeLending m num x r → Step m (notice num x) (after_notice m r.outcome r.manager)
-  advances-lending : (to : Reading) (r : AdvanceAnswer) → AdvanceLending m to r → Step m (advance to) (after_advance m r.advanced.outcome r.manager)
+  adds-notice-lent : (num : LeaseNum) (x : LeaseNotice) (r : Result Lines Refusal) (m' : Manager) → AddNoticeLent m num x r m' → Step m (notice num x) m'
+  advances-lent : (to : Reading) (r : Result Advanced Refusal) (m' : Manager) → AdvanceLent m to r m' → Step m (advance to) m'
+  adds-notice-lending : (num : LeaseNum) (x : LeaseNotice) (r : Answered Lines) → AddNoticeLending m num x r → Step m (notice num x) (after m r.outcome r.manager)
+  advances-lending : (to : Reading) (r : Answered Advanced) → AdvanceLending m to r → Step m (advance to) (after m r.outcome r.manager)
   -- questions
-  asks-grant-set : (r : SetOutcome) → GrantSet m r → Step m grant-set m
-  asks-lease-set : (r : SetOutcome) → LeaseSet m r → Step m lease-set m
-  asks-lease-cnt : (r : CountOutcome) → LeaseCnt m r → Step m lease-cnt m
-  asks-time-left : (id : ℕ) (r : TimeLeftOutcome) → TimeLeft m id r → Step m (time-left id) m
+  asks-grant-set : (r : Result Bitmap Refusal) → GrantSet m r → Step m grant-set m
+  asks-lease-set : (r : Result Bitmap Refusal) → LeaseSet m r → Step m lease-set m
+  asks-lease-cnt : (r : Result ℕ Refusal) → LeaseCnt m r → Step m lease-cnt m
+  asks-time-left : (id : ℕ) (r : Result (Option ℕ) Refusal) → TimeLeft m id r → Step m (time-left id) m
 
 -- ---- demand 3
 
@@ -76,9 +50,9 @@ pub data Step (m : Manager) : Call → Manager → Type 0 where
 -- answer on m. Then g, l and k, and the count of Promise lines, are what the rules' own log of those calls says.
 abbrev pub Demand3 : Type 0
 Demand3 =
-    (me n t heartbeat : ℕ) (start : Reading) (s : SetUpAnswer) → NewAndSetup me n t heartbeat start s → s.outcome ≡ Done
+    (me n t heartbeat : ℕ) (start : Reading) (s : Answered (Unit {0})) → NewAndSetup me n t heartbeat start s → s.outcome ≡ (Ok tt)
     → (calls : List Call) (m : Manager) → Chain Step s.manager calls m
-    → (g l : SetOutcome) (k : CountOutcome) → GrantSet m g → LeaseSet m l → LeaseCnt m k
+    → (g l : Result Bitmap Refusal) (k : Result ℕ Refusal) → GrantSet m g → LeaseSet m l → LeaseCnt m k
     → Answers me n t (run_of me n t heartbeat start calls).journal g l k
 
 -- There is such a chain from every record for every list whose drift settings are i8, so the statement is about every list of calls.

@@ -10,7 +10,7 @@ ghost use Rattle.drift_c.specs.Flat.{flat};
 
 use drift::{Clock, Drifted};
 
-// `Drifted` with the fields of its working record beside the answer.
+// `Drifted` as C has it: the fields of its working record beside the answer.
 #[repr(C)]
 #[derive(Clone, Copy)]
 pub struct DriftedC {
@@ -20,14 +20,16 @@ pub struct DriftedC {
     pub product: f64,
 }
 
-fn flattened(r: Drifted) -> DriftedC
-    ensures { result ≡ flat r }
-{
-    DriftedC {
-        ns: r.ns,
-        seconds: r.working.seconds,
-        quotient: r.working.quotient,
-        product: r.working.product,
+impl From<Drifted> for DriftedC {
+    ghost from_gives = { λ r c. c ≡ flat r };
+
+    fn from(r: Drifted) -> DriftedC {
+        DriftedC {
+            ns: r.ns,
+            seconds: r.working.seconds,
+            quotient: r.working.quotient,
+            product: r.working.product,
+        }
     }
 }
 
@@ -68,7 +70,7 @@ pub extern "C" fn drift_in_ns(p: f64) -> u64
 pub extern "C" fn drift_true(ns: u64) -> DriftedC
     ensures { result ≡ flat (drifted_on True ns) }
 {
-    flattened(drift_clocks::clock_drifted(Clock::True, ns))
+    drift_clocks::clock_drifted(Clock::True, ns).into()
 }
 
 // A duration under a clock that drifts by the quotient q.
@@ -76,5 +78,5 @@ pub extern "C" fn drift_true(ns: u64) -> DriftedC
 pub extern "C" fn drift_by(q: f64, ns: u64) -> DriftedC
     ensures { result ≡ flat (drifted_on (Drifting q) ns) }
 {
-    flattened(drift_clocks::clock_drifted(Clock::Drifting(q), ns))
+    drift_clocks::clock_drifted(Clock::Drifting(q), ns).into()
 }

@@ -17,21 +17,21 @@ const LARGEST_QUOTIENT: u64 = 100_000_000_000;
 
 // Whether some drift setting gives the quotient q. Its rate can only be the whole number nearest to
 // 100 / q, and one comparison decides.
+#[tactic(auto, using(drift::proofs::Quotients::decides, drift::proofs::Quotients::below_least, drift::proofs::Quotients::above_largest))]
 pub fn is_quotient(q: f64) -> bool
     ensures { result ≡ is_quotient q }
 {
-    let ns = in_ns(q);
-    if ns < LEAST_QUOTIENT {
-        return false;
+    match in_ns(q) {
+        ns @ LEAST_QUOTIENT..=LARGEST_QUOTIENT => {
+            let rate = (LARGEST_QUOTIENT + ns / 2) / ns;
+            q == quotient_at(rate)
+        }
+        _ => false,
     }
-    if LARGEST_QUOTIENT < ns {
-        return false;
-    }
-    let rate = (LARGEST_QUOTIENT + ns / 2) / ns;
-    q == quotient_at(rate)
 }
 
 // The duration as the clock has it, and how it was worked out.
+#[tactic(auto, using(drift::proofs::Literals::zero_is), unfolding(drift::specs::Clocks::drifted_on, drift::specs::Drift::drifted_by, drift::specs::Drift::product_of))]
 pub fn clock_drifted(clock: Clock, ns: u64) -> Drifted
     ensures { result ≡ drifted_on clock ns }
 {
@@ -47,9 +47,8 @@ pub fn clock_drifted(clock: Clock, ns: u64) -> Drifted
         Clock::Drifting(q) => {
             let seconds = in_seconds(ns);
             let product = q * seconds;
-            let answer = in_ns(product);
             Drifted {
-                ns: answer,
+                ns: in_ns(product),
                 working: Working {
                     seconds,
                     quotient: q,

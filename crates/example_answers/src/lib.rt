@@ -12,21 +12,24 @@
 #![tactic(auto)]
 
 use bitmap::Bitmap;
-use lease::{AcceptBar, LeaseAction, LeaseMsg, Line, Lines, SetOutcome};
-use std::num::wrapping_add_u64;
+use lease::{Bar, LeaseAction, LeaseMsg, Line, Lines, Refusal};
 use timer::Timer;
 
 // A number in which the order of a and b matters.
 pub fn mix(a: u64, b: u64) -> u64 {
-    wrapping_add_u64(a % 18_000_000_000_000 * 1_000_003, b)
+    (a % 18_000_000_000_000 * 1_000_003).wrapping_add(b)
 }
 
 fn letter(a: u64, b: u8) -> u64 {
-    mix(a, b as u64)
+    mix(a, u64::from(b))
 }
 
 pub fn refused(k: u8) -> u64 {
-    mix(letter(0, b'x'), k as u64)
+    mix(letter(0, b'x'), u64::from(k))
+}
+
+pub fn refused_by(refusal: Refusal) -> u64 {
+    refused(refusal.number())
 }
 
 pub fn done() -> u64 {
@@ -38,53 +41,42 @@ pub fn count(n: u64) -> u64 {
 }
 
 fn with_set(a: u64, b: Bitmap) -> u64 {
-    mix(mix(a, b.size as u64), b.bits)
+    mix(mix(a, u64::from(b.size)), b.bits)
 }
 
 pub fn set(b: Bitmap) -> u64 {
     with_set(letter(0, b'S'), b)
 }
 
-pub fn set_of(o: SetOutcome) -> u64 {
-    match o {
-        SetOutcome::Refused(k) => refused(k),
-        SetOutcome::Ids(b) => set(b),
-    }
+pub fn left(ms: Option<u64>) -> u64 {
+    ms.map_or(letter(0, b'z'), |ms| mix(letter(0, b't'), ms))
 }
 
-pub fn left(ms: u64) -> u64 {
-    mix(letter(0, b't'), ms)
-}
+// ---- outcomes
 
-pub fn none_left() -> u64 {
-    letter(0, b'z')
+pub fn set_of(o: Result<Bitmap, Refusal>) -> u64 {
+    o.map_or_else(refused_by, set)
 }
 
 // ---- timers
 
-pub fn no_timer() -> u64 {
-    letter(0, b'-')
-}
-
-pub fn timer(t: Timer) -> u64 {
-    match t {
-        Timer::Unarmed => letter(0, b'u'),
-        Timer::Armed(d) => mix(letter(0, b'd'), d.0),
-        Timer::Exploded => letter(0, b'e'),
+pub fn timer(entry: Option<Timer>) -> u64 {
+    match entry {
+        None => letter(0, b'-'),
+        Some(Timer::Unarmed) => letter(0, b'u'),
+        Some(Timer::Armed(d)) => mix(letter(0, b'd'), d.0),
+        Some(Timer::Exploded) => letter(0, b'e'),
     }
 }
 
 pub fn flag(a: u64, on: bool) -> u64 {
-    if on { mix(a, 1) } else { mix(a, 0) }
+    mix(a, u64::from(on))
 }
 
 // ---- lines
 
-fn bar(a: u64, b: AcceptBar) -> u64 {
-    match b {
-        AcceptBar::None => letter(a, b'n'),
-        AcceptBar::Some(x) => mix(letter(a, b'b'), x.0),
-    }
+fn bar(a: u64, b: Option<Bar>) -> u64 {
+    b.map_or(letter(a, b'n'), |x| mix(letter(a, b'b'), x.0))
 }
 
 fn message(a: u64, m: LeaseMsg) -> u64 {
@@ -118,8 +110,7 @@ fn action(a: u64, x: LeaseAction) -> u64 {
 }
 
 fn line(a: u64, l: Line) -> u64 {
-    let num = l.0;
-    let x = l.1;
+    let Line(num, x) = l;
     action(mix(a, num.0), x)
 }
 
@@ -134,14 +125,7 @@ pub fn lines(l: Lines) -> u64 {
 
 // ---- what advance answers
 
-fn fired(sent: Bitmap, held: Bitmap) -> u64 {
-    mix(mix(letter(0, b'f'), sent.bits), held.bits)
-}
-
-pub fn fired_alone(sent: Bitmap, held: Bitmap) -> u64 {
-    letter(fired(sent, held), b'-')
-}
-
-pub fn fired_with_line(sent: Bitmap, held: Bitmap, end: Line) -> u64 {
-    line(fired(sent, held), end)
+pub fn fired(sent: Bitmap, held: Bitmap, end: Option<Line>) -> u64 {
+    let sets = mix(mix(letter(0, b'f'), sent.bits), held.bits);
+    end.map_or(letter(sets, b'-'), |l| line(sets, l))
 }

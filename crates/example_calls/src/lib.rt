@@ -5,12 +5,9 @@
 //     r SET  attempt_refresh              d PERCENT  set_drift
 #![tactic(auto)]
 
-use example_answers::{done, fired_alone, fired_with_line, lines, refused, set_of};
+use example_answers::{done, fired, lines, refused_by, set_of};
 use example_script::{letter, notice, peer_set, word};
-use lease::{
-    AdvanceAnswer, AdvanceOutcome, DriftSetting, LeaseNum, Manager, NoticeAnswer, NoticeOutcome,
-    PlainAnswer, PlainOutcome, QuietEnd, SetUpOutcome,
-};
+use lease::{Advanced, Answered, LeaseNum, Lines, Manager};
 use std::io;
 use std::io::Read;
 use timer::Reading;
@@ -21,15 +18,15 @@ pub struct Done {
     pub answer: u64,
 }
 
+fn plain(a: Answered<()>) -> Done {
+    Done {
+        manager: a.manager,
+        answer: a.outcome.map_or_else(refused_by, |()| done()),
+    }
+}
+
 fn set_up(me: usize, n: usize, t: u64, heartbeat: u64, now: u64) -> Done {
-    let a = setup::new_and_setup(me, n, t, heartbeat, Reading(now));
-    let outcome = a.outcome;
-    let manager = a.manager;
-    let answer = match outcome {
-        SetUpOutcome::Refused(k) => refused(k),
-        SetUpOutcome::Done => done(),
-    };
-    Done { manager, answer }
+    plain(setup::new_and_setup(me, n, t, heartbeat, Reading(now)))
 }
 
 // Population 3, own id 0, T = 1 s, start 0.
@@ -45,14 +42,11 @@ fn read_set_up(input: &mut impl Read) -> io::Result<Done> {
     Ok(set_up(me, n, t, heartbeat, word(input)?))
 }
 
-pub fn noticed(a: NoticeAnswer) -> Done {
-    let outcome = a.outcome;
-    let manager = a.manager;
-    let answer = match outcome {
-        NoticeOutcome::Refused(k) => refused(k),
-        NoticeOutcome::Done(l) => lines(l),
-    };
-    Done { manager, answer }
+pub fn noticed(a: Answered<Lines>) -> Done {
+    Done {
+        manager: a.manager,
+        answer: a.outcome.map_or_else(refused_by, lines),
+    }
 }
 
 fn read_notice(m: Manager, input: &mut impl Read) -> io::Result<Done> {
@@ -60,43 +54,20 @@ fn read_notice(m: Manager, input: &mut impl Read) -> io::Result<Done> {
     Ok(noticed(leaseman::add_notice(m, num, notice(input)?)))
 }
 
-fn fired(o: AdvanceOutcome) -> u64 {
-    match o {
-        AdvanceOutcome::Refused(k) => refused(k),
-        AdvanceOutcome::Fired(sent, held, end) => match end {
-            QuietEnd::None => fired_alone(sent, held),
-            QuietEnd::Given(l) => fired_with_line(sent, held, l),
-        },
-    }
-}
-
-pub fn advanced(a: AdvanceAnswer) -> Done {
-    let advanced = a.advanced;
-    let outcome = advanced.outcome;
-    let manager = a.manager;
+pub fn advanced(a: Answered<Advanced>) -> Done {
     Done {
-        manager,
-        answer: fired(outcome),
+        manager: a.manager,
+        answer: a
+            .outcome
+            .map_or_else(refused_by, |x| fired(x.sent, x.held, x.quiet_end)),
     }
-}
-
-fn plain(a: PlainAnswer) -> Done {
-    let outcome = a.outcome;
-    let manager = a.manager;
-    let answer = match outcome {
-        PlainOutcome::Refused(k) => refused(k),
-        PlainOutcome::Done => done(),
-    };
-    Done { manager, answer }
 }
 
 fn refresh(m: Manager, input: &mut impl Read) -> io::Result<Done> {
     let a = outer_calls::attempt_refresh(m, peer_set(input)?);
-    let outcome = a.outcome;
-    let manager = a.manager;
     Ok(Done {
-        manager,
-        answer: set_of(outcome),
+        manager: a.manager,
+        answer: set_of(a.outcome),
     })
 }
 
@@ -115,7 +86,7 @@ fn read_advance(m: Manager, input: &mut impl Read) -> io::Result<Done> {
 }
 
 fn set_drift(m: Manager, d: i8) -> Done {
-    plain(clock_calls::set_drift(m, DriftSetting::Drifting(d)))
+    plain(clock_calls::set_drift(m, Some(d)))
 }
 
 fn start_quiet(m: Manager) -> Done {

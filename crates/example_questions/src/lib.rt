@@ -6,81 +6,32 @@
 //     v  the active number
 #![tactic(auto)]
 
-use example_answers::{count, flag, left, mix, no_timer, none_left, refused, set_of, timer};
+use example_answers::{count, flag, left, mix, refused_by, set_of, timer};
 use example_script::word;
-use lease::{CountOutcome, Entry, Grant, Manager, Peer, TimeLeft, TimeLeftOutcome};
+use lease::{Manager, Peer};
 use std::io;
 use std::io::Read;
 
-fn count_of(o: CountOutcome) -> u64 {
-    match o {
-        CountOutcome::Refused(k) => refused(k),
-        CountOutcome::Count(n) => count(n),
-    }
-}
-
-fn left_of(l: TimeLeft) -> u64 {
-    match l {
-        TimeLeft::None => none_left(),
-        TimeLeft::Ms(ms) => left(ms),
-    }
-}
-
-fn time_left(o: TimeLeftOutcome) -> u64 {
-    match o {
-        TimeLeftOutcome::Refused(k) => refused(k),
-        TimeLeftOutcome::Left(l) => left_of(l),
-    }
-}
-
 // The row of a peer below 64; of another id, the row of 0.
 fn row(m: Manager, id: usize) -> Peer {
-    if id < 64 {
-        return m.peers[id];
-    }
-    m.peers[0]
-}
-
-fn entry(e: Entry) -> u64 {
-    match e {
-        Entry::Absent => no_timer(),
-        Entry::Present(t) => timer(t),
-    }
-}
-
-fn grant(g: Grant) -> u64 {
-    match g {
-        Grant::Absent => no_timer(),
-        Grant::Present(t, _) => timer(t),
-    }
+    m.peers[if id < 64 { id } else { 0 }]
 }
 
 // What a row has under a letter.
 fn entry_of(r: Peer, letter: u8) -> u64 {
-    let promise_sent = r.promise_sent;
-    let guard_sent = r.guard_sent;
-    let promise_held = r.promise_held;
     match letter {
-        b'p' => grant(promise_sent),
-        b'u' => entry(guard_sent),
-        b'h' => entry(promise_held),
+        b'p' => timer(r.promise_sent.map(|(t, _)| t)),
+        b'u' => timer(r.guard_sent),
+        b'h' => timer(r.promise_held),
         _ => flag(0, r.refresh_mark),
     }
 }
 
 pub fn is_question(letter: u8) -> bool {
-    match letter {
-        b'g' => true,
-        b'l' => true,
-        b'k' => true,
-        b't' => true,
-        b'p' => true,
-        b'u' => true,
-        b'h' => true,
-        b'm' => true,
-        b'v' => true,
-        _ => false,
-    }
+    matches!(
+        letter,
+        b'g' | b'l' | b'k' | b't' | b'p' | b'u' | b'h' | b'm' | b'v'
+    )
 }
 
 // Reads the id that the question is about, if it is about one.
@@ -88,12 +39,9 @@ pub fn ask(m: Manager, letter: u8, input: &mut impl Read) -> io::Result<u64> {
     Ok(match letter {
         b'g' => set_of(questions::grant_set(m)),
         b'l' => set_of(questions::lease_set(m)),
-        b'k' => count_of(questions::lease_cnt(m)),
-        b't' => time_left(questions::time_left(m, word(input)? as usize)),
-        b'v' => {
-            let num = m.active_num;
-            mix(0, num.0)
-        }
+        b'k' => questions::lease_cnt(m).map_or_else(refused_by, count),
+        b't' => questions::time_left(m, word(input)? as usize).map_or_else(refused_by, left),
+        b'v' => mix(0, m.active_num.0),
         _ => entry_of(row(m, word(input)? as usize), letter),
     })
 }

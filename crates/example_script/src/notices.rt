@@ -6,24 +6,24 @@
 // of a message: g BAR Guard, G GuardReply, p Promise, P 0 or 1 PromiseReply, r Revoke, R 0 or 1 RevokeReply
 use crate::{letter, word};
 use bitmap::Bitmap;
-use lease::{AcceptBar, Bar, LeaseMsg, LeaseNotice, PeerSet};
+use lease::{Bar, LeaseMsg, LeaseNotice};
 use std::io;
 use std::io::Read;
 
-pub fn peer_set(input: &mut impl Read) -> io::Result<PeerSet> {
+pub fn peer_set(input: &mut impl Read) -> io::Result<Option<Bitmap>> {
     if letter(input)? == b'a' {
-        return Ok(PeerSet::All);
+        return Ok(None);
     }
     let size = letter(input)?;
     let bits = word(input)?;
-    Ok(PeerSet::Of(Bitmap { size, bits }))
+    Ok(Some(Bitmap { size, bits }))
 }
 
-fn bar(input: &mut impl Read) -> io::Result<AcceptBar> {
+fn bar(input: &mut impl Read) -> io::Result<Option<Bar>> {
     if letter(input)? == b'n' {
-        return Ok(AcceptBar::None);
+        return Ok(None);
     }
-    Ok(AcceptBar::Some(Bar(word(input)?)))
+    Ok(Some(Bar(word(input)?)))
 }
 
 fn flag(input: &mut impl Read) -> io::Result<bool> {

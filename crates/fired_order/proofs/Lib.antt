@@ -1,4 +1,4 @@
 -- The laws of lists of fired timers, beside the functions' proofs.
-pub mod Walk
+pub mod Place
 pub mod Sorting
 pub mod Sides

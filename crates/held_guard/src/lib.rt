@@ -4,33 +4,24 @@
 ghost use Rattle.std.specs.Prelude.{◌≡◌};
 ghost use Rattle.lease.specs.Handlers.{handle_msg_guard};
 
-use lease::{AcceptBar, Actions, Entry, Handled, LeaseAction, LeaseMsg, Peer, ReplicaId};
-use rows::with_held;
+use lease::{Bar, Handled, LeaseAction, LeaseMsg, Peer, ReplicaId};
 use timer::Timer;
 
 // Guard: nothing if a promise from that peer is held; otherwise a new held guard replaces any old one.
-pub fn handle_msg_guard(id: ReplicaId, t: Timer, bar: AcceptBar, row: Peer) -> Handled
+pub fn handle_msg_guard(id: ReplicaId, t: Timer, bar: Option<Bar>, row: Peer) -> Handled
     ensures { result ≡ handle_msg_guard id t bar row }
 {
-    let promise = row.promise_held;
-    match promise {
-        Entry::Present(_) => Handled {
-            peer: row,
-            actions: Actions::None,
-        },
-        Entry::Absent => {
-            let peer = with_held(row, Entry::Present(t), Entry::Absent);
-            let reply = LeaseAction::SendLeaseMsg(id, LeaseMsg::GuardReply);
-            match bar {
-                AcceptBar::None => Handled {
-                    peer,
-                    actions: Actions::One(reply),
-                },
-                AcceptBar::Some(b) => Handled {
-                    peer,
-                    actions: Actions::Two(LeaseAction::GuardAcceptBar(id, b), reply),
-                },
-            }
-        }
+    if row.promise_held.is_some() {
+        return Handled::no_action(row);
+    }
+    let guarded = Peer {
+        guard_held: Some(t),
+        promise_held: None,
+        ..row
+    };
+    let reply = LeaseAction::SendLeaseMsg(id, LeaseMsg::GuardReply);
+    match bar {
+        None => Handled::one_action(guarded, reply),
+        Some(b) => Handled::two_actions(guarded, LeaseAction::GuardAcceptBar(id, b), reply),
     }
 }

@@ -1,2 +1,3 @@
 -- How answers cross to C.
 pub mod Answers
+pub mod Refusals

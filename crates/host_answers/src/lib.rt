@@ -3,18 +3,17 @@
 #![tactic(auto)]
 
 ghost use Rattle.std.specs.Prelude.{◌≡◌};
+ghost use Rattle.lease.specs.Refusals.{refusal_number};
 ghost use Rattle.host_answers.specs.Answers.{accepted, refused_answer, no_lines, one_line, two_lines, lines_answer, notice_answer, fired_answer, advance_lines, advance_answer, plain_answer, setup_answer, set_answer, count_answer, time_left_answer};
+ghost use Rattle.host_answers.specs.Refusals.{call_refusal_number, refused_by};
 
 use bitmap::Bitmap;
 use fired_order::no_timers;
 use host_lines::{LineC, fired_line, line_c, line_of, no_line, set_line, time_left_line};
-use lease::{
-    AdvanceOutcome, Advanced, CountOutcome, FiredTimers, Lines, NoticeOutcome, PlainOutcome,
-    QuietEnd, SetOutcome, SetUpOutcome, TimeLeftOutcome,
-};
+use lease::{Advanced, FiredTimers, Line, Lines, Refusal};
 
 // Refused is 0, or the number of the refusal; count is how many lines there are, the others are zeros. Any call but
-// advance lists no timer.
+// advance lists no timer. Numbers and a count, as the C interface has them.
 #[repr(C)]
 #[derive(Clone, Copy)]
 pub struct AnswerC {
@@ -24,6 +23,35 @@ pub struct AnswerC {
     pub two: LineC,
     pub three: LineC,
     pub fired: FiredTimers,
+}
+
+// Why a call from the host is refused.
+#[derive(Clone, Copy, PartialEq, Eq)]
+pub enum CallRefusal {
+    // The card is no call.
+    NoCall,
+    // Document 01's, of the call that the card is.
+    Refused(Refusal),
+}
+
+impl CallRefusal {
+    // The number that crosses to C.
+    pub fn number(self) -> u8
+        ensures { result ≡ call_refusal_number self }
+    {
+        match self {
+            CallRefusal::NoCall => 22,
+            CallRefusal::Refused(refusal) => refusal.number(),
+        }
+    }
+}
+
+impl From<Refusal> for CallRefusal {
+    ghost from_gives = { refused_by };
+
+    fn from(own: Refusal) -> CallRefusal {
+        CallRefusal::Refused(own)
+    }
 }
 
 fn accepted_with(count: u64, one: LineC, two: LineC, three: LineC) -> AnswerC
@@ -39,13 +67,14 @@ fn accepted_with(count: u64, one: LineC, two: LineC, three: LineC) -> AnswerC
     }
 }
 
-// Refused by that number.
-pub fn refused_answer(code: u8) -> AnswerC
-    ensures { result ≡ refused_answer code }
+// Refused, with no line.
+#[tactic(auto, unfolding(crate::specs::Answers::refused_answer))]
+pub fn refused_answer(refusal: CallRefusal) -> AnswerC
+    ensures { result ≡ refused_answer (call_refusal_number refusal) }
 {
     let none = no_line();
     AnswerC {
-        refused: code as u64,
+        refused: u64::from(refusal.number()),
         count: 0,
         one: none,
         two: none,
@@ -54,7 +83,15 @@ pub fn refused_answer(code: u8) -> AnswerC
     }
 }
 
+// Refused by the manager.
+fn refused_by(refusal: Refusal) -> AnswerC
+    ensures { result ≡ refused_answer (refusal_number refusal) }
+{
+    refused_answer(CallRefusal::Refused(refusal))
+}
+
 // Accepted, with no line.
+#[tactic(auto, unfolding(crate::specs::Answers::no_lines))]
 pub fn no_lines() -> AnswerC
     ensures { result ≡ no_lines }
 {
@@ -62,6 +99,7 @@ pub fn no_lines() -> AnswerC
     accepted_with(0, none, none, none)
 }
 
+#[tactic(auto, unfolding(crate::specs::Answers::one_line))]
 pub fn one_line(line: LineC) -> AnswerC
     ensures { result ≡ one_line line }
 {
@@ -69,13 +107,14 @@ pub fn one_line(line: LineC) -> AnswerC
     accepted_with(1, line, none, none)
 }
 
+#[tactic(auto, unfolding(crate::specs::Answers::two_lines))]
 fn two_lines(one: LineC, two: LineC) -> AnswerC
     ensures { result ≡ two_lines one two }
 {
-    let none = no_line();
-    accepted_with(2, one, two, none)
+    accepted_with(2, one, two, no_line())
 }
 
+#[tactic(auto, unfolding(crate::specs::Answers::lines_answer))]
 fn lines_answer(lines: Lines) -> AnswerC
     ensures { result ≡ lines_answer lines }
 {
@@ -87,96 +126,75 @@ fn lines_answer(lines: Lines) -> AnswerC
     }
 }
 
-pub fn notice_answer(outcome: NoticeOutcome) -> AnswerC
+#[tactic(auto, unfolding(crate::specs::Answers::notice_answer))]
+pub fn notice_answer(outcome: Result<Lines, Refusal>) -> AnswerC
     ensures { result ≡ notice_answer outcome }
 {
-    match outcome {
-        NoticeOutcome::Refused(code) => refused_answer(code),
-        NoticeOutcome::Done(lines) => lines_answer(lines),
-    }
+    outcome.map_or_else(refused_by, lines_answer)
 }
 
 // What fired, and the quiet-end line after it, if there is one.
-fn fired_answer(sent: Bitmap, held: Bitmap, end: QuietEnd) -> AnswerC
+#[tactic(auto, unfolding(crate::specs::Answers::fired_answer))]
+fn fired_answer(sent: Bitmap, held: Bitmap, end: Option<Line>) -> AnswerC
     ensures { result ≡ fired_answer sent held end }
 {
     let fired = fired_line(sent, held);
     match end {
-        QuietEnd::None => one_line(fired),
-        QuietEnd::Given(line) => two_lines(fired, line_of(line)),
+        None => one_line(fired),
+        Some(line) => two_lines(fired, line_of(line)),
     }
 }
 
-fn advance_lines(outcome: AdvanceOutcome) -> AnswerC
+#[tactic(auto, unfolding(crate::specs::Answers::advance_lines))]
+fn advance_lines(outcome: Result<Advanced, Refusal>) -> AnswerC
     ensures { result ≡ advance_lines outcome }
 {
-    match outcome {
-        AdvanceOutcome::Refused(code) => refused_answer(code),
-        AdvanceOutcome::Fired(sent, held, end) => fired_answer(sent, held, end),
-    }
+    outcome.map_or_else(refused_by, |a| fired_answer(a.sent, a.held, a.quiet_end))
 }
 
 // With the timers in order.
-pub fn advance_answer(advanced: Advanced) -> AnswerC
-    ensures { result ≡ advance_answer advanced }
+#[tactic(auto, unfolding(crate::specs::Answers::advance_answer))]
+pub fn advance_answer(outcome: Result<Advanced, Refusal>) -> AnswerC
+    ensures { result ≡ advance_answer outcome }
 {
-    let outcome = advanced.outcome;
-    let a = advance_lines(outcome);
-    let fired = advanced.fired;
-    let one = a.one;
-    let two = a.two;
-    let three = a.three;
+    let answer = advance_lines(outcome);
     AnswerC {
-        refused: a.refused,
-        count: a.count,
-        one,
-        two,
-        three,
-        fired,
+        fired: outcome.map_or_else(|_| no_timers(), |a| a.fired),
+        ..answer
     }
 }
 
-pub fn plain_answer(outcome: PlainOutcome) -> AnswerC
+#[tactic(auto, unfolding(crate::specs::Answers::plain_answer))]
+pub fn plain_answer(outcome: Result<(), Refusal>) -> AnswerC
     ensures { result ≡ plain_answer outcome }
 {
-    match outcome {
-        PlainOutcome::Refused(code) => refused_answer(code),
-        PlainOutcome::Done => no_lines(),
-    }
+    outcome.map_or_else(refused_by, |()| no_lines())
 }
 
-pub fn setup_answer(outcome: SetUpOutcome) -> AnswerC
+#[tactic(auto, unfolding(crate::specs::Answers::setup_answer))]
+pub fn setup_answer(outcome: Result<(), Refusal>) -> AnswerC
     ensures { result ≡ setup_answer outcome }
 {
-    match outcome {
-        SetUpOutcome::Refused(code) => refused_answer(code),
-        SetUpOutcome::Done => no_lines(),
-    }
+    plain_answer(outcome)
 }
 
-pub fn set_answer(outcome: SetOutcome) -> AnswerC
+#[tactic(auto, unfolding(crate::specs::Answers::set_answer))]
+pub fn set_answer(outcome: Result<Bitmap, Refusal>) -> AnswerC
     ensures { result ≡ set_answer outcome }
 {
-    match outcome {
-        SetOutcome::Refused(code) => refused_answer(code),
-        SetOutcome::Ids(set) => one_line(set_line(set)),
-    }
+    outcome.map_or_else(refused_by, |set| one_line(set_line(set)))
 }
 
-pub fn count_answer(outcome: CountOutcome) -> AnswerC
+#[tactic(auto, unfolding(crate::specs::Answers::count_answer))]
+pub fn count_answer(outcome: Result<u64, Refusal>) -> AnswerC
     ensures { result ≡ count_answer outcome }
 {
-    match outcome {
-        CountOutcome::Refused(code) => refused_answer(code),
-        CountOutcome::Count(n) => one_line(line_c(33, 0, 0, n)),
-    }
+    outcome.map_or_else(refused_by, |n| one_line(line_c(33, 0, 0, n)))
 }
 
-pub fn time_left_answer(outcome: TimeLeftOutcome) -> AnswerC
+#[tactic(auto, unfolding(crate::specs::Answers::time_left_answer))]
+pub fn time_left_answer(outcome: Result<Option<u64>, Refusal>) -> AnswerC
     ensures { result ≡ time_left_answer outcome }
 {
-    match outcome {
-        TimeLeftOutcome::Refused(code) => refused_answer(code),
-        TimeLeftOutcome::Left(left) => one_line(time_left_line(left)),
-    }
+    outcome.map_or_else(refused_by, |left| one_line(time_left_line(left)))
 }

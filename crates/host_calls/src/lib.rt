@@ -18,16 +18,19 @@ use setup::new_and_setup;
 use timer::Reading;
 
 // What the call leaves: the next record, or on a refusal the one that was lent.
+#[tactic(auto, unfolding(host_rules::specs::Calls::left))]
 pub fn left_by(f: ManagerC, answer: AnswerC, m: Manager) -> CalledC
     ensures { result ≡ left f answer m }
 {
-    if answer.refused == 0 {
-        let manager = flat_record(m);
-        return CalledC { answer, manager };
-    }
-    CalledC { answer, manager: f }
+    let manager = if answer.refused == 0 {
+        flat_record(m)
+    } else {
+        f
+    };
+    CalledC { answer, manager }
 }
 
+#[tactic(auto, unfolding(host_rules::specs::Calls::setup_c))]
 pub fn setup_c(f: ManagerC, c: CallC) -> CalledC
     ensures { result ≡ setup_c f c }
 {
@@ -38,31 +41,21 @@ pub fn setup_c(f: ManagerC, c: CallC) -> CalledC
         c.second,
         Reading(c.number),
     );
-    let outcome = a.outcome;
-    let manager = a.manager;
-    let answer = setup_answer(outcome);
-    left_by(f, answer, manager)
+    left_by(f, setup_answer(a.outcome), a.manager)
 }
 
+#[tactic(auto, unfolding(host_rules::specs::Calls::notice_c))]
 pub fn notice_c(f: ManagerC, c: CallC) -> CalledC
     ensures { result ≡ notice_c f c }
 {
-    let m = manager_of(f);
-    let notice = lease_notice_of(c);
-    let a = add_notice(m, LeaseNum(c.number), notice);
-    let outcome = a.outcome;
-    let manager = a.manager;
-    let answer = notice_answer(outcome);
-    left_by(f, answer, manager)
+    let a = add_notice(manager_of(f), LeaseNum(c.number), lease_notice_of(c));
+    left_by(f, notice_answer(a.outcome), a.manager)
 }
 
+#[tactic(auto, unfolding(host_rules::specs::Calls::advance_c))]
 pub fn advance_c(f: ManagerC, c: CallC) -> CalledC
     ensures { result ≡ advance_c f c }
 {
-    let m = manager_of(f);
-    let a = advance(m, Reading(c.number));
-    let advanced = a.advanced;
-    let manager = a.manager;
-    let answer = advance_answer(advanced);
-    left_by(f, answer, manager)
+    let a = advance(manager_of(f), Reading(c.number));
+    left_by(f, advance_answer(a.outcome), a.manager)
 }

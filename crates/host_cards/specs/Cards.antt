@@ -1,19 +1,15 @@
 -- A call as the six numbers that cross from C, a card, and what it says. Fields that a code does not name are not looked at. Each
 -- definition but `is_call` is total, and is meant for cards that are calls. Definitions only.
-use Rattle.std.specs.Prelude.{ℕ, ◌%◌, min, Bool, true, false, cond, eqb, leb, ℤ}
+use Rattle.std.specs.Prelude.{ℕ, ◌%◌, min, Bool, true, false, cond, eqb, leb, ℤ, Option, None, Some}
 use Rattle.std.proofs.Math.IntN.{sub_ℕ}
 use Rattle.bitmap.specs.Bitmaps.{bitmap_of}
 use Rattle.lease.specs.Limits.{within}
-use Rattle.lease.specs.declared.AcceptBar.{AcceptBar}
-use Rattle.lease.specs.declared.AcceptBar.TheVariants as B
-use Rattle.lease.specs.declared.PeerSet.{PeerSet}
-use Rattle.lease.specs.declared.PeerSet.TheVariants.{All, Of}
+use Rattle.bitmap.specs.declared.Bitmap.{Bitmap}
+use Rattle.lease.specs.declared.Bar.{Bar}
 use Rattle.lease.specs.declared.LeaseMsg.{LeaseMsg}
 use Rattle.lease.specs.declared.LeaseMsg.TheVariants as M
 use Rattle.lease.specs.declared.LeaseNotice.{LeaseNotice}
 use Rattle.lease.specs.declared.LeaseNotice.TheVariants as N
-use Rattle.lease.specs.declared.DriftSetting.{DriftSetting}
-use Rattle.lease.specs.declared.DriftSetting.TheVariants as D
 use Rattle.host_record.specs.Managers.{is_flag}
 use Rattle.host_cards.specs.declared.CallC.{CallC}
 
@@ -40,18 +36,18 @@ is_call c =
 -- ---- what they say
 
 -- Size 0 is no set. A bitmap's size is a u8: one above 255 counts as 255.
-unfoldable pub peer_set_of : CallC → PeerSet
-peer_set_of c = cond (eqb c.size 0) All (Of (bitmap_of (min c.size 255) c.first))
+unfoldable pub peer_set_of : CallC → Option Bitmap
+peer_set_of c = cond (eqb c.size 0) None (Some (bitmap_of (min c.size 255) c.first))
 
 -- NewGrants: second is an accept bar where peer is 1.
-unfoldable pub accept_bar_of : CallC → AcceptBar
-accept_bar_of c = cond (eqb c.peer 1) (B.Some (record { 0 = c.second })) B.None
+unfoldable pub accept_bar_of : CallC → Option Bar
+accept_bar_of c = cond (eqb c.peer 1) (Some (record { 0 = c.second })) None
 
 -- A message, by the kind in size. What a Guard of kind 2 carries, and held of the replies, is in first.
 unfoldable pub msg_of : CallC → LeaseMsg
 msg_of c =
-    cond (eqb c.size 1) (M.Guard B.None)
-    (cond (eqb c.size 2) (M.Guard (B.Some (record { 0 = c.first })))
+    cond (eqb c.size 1) (M.Guard None)
+    (cond (eqb c.size 2) (M.Guard (Some (record { 0 = c.first })))
     (cond (eqb c.size 3) M.GuardReply
     (cond (eqb c.size 4) M.Promise
     (cond (eqb c.size 5) (M.PromiseReply (eqb c.first 1)) (cond (eqb c.size 6) M.Revoke (M.RevokeReply (eqb c.first 1)))))))
@@ -70,5 +66,5 @@ unfoldable pub percent_of : ℕ → ℤ
 percent_of n = sub_ℕ (n % 256) 128
 
 -- Size 0 is a true clock.
-unfoldable pub drift_setting_of : CallC → DriftSetting
-drift_setting_of c = cond (eqb c.size 0) D.True (D.Drifting (percent_of c.first))
+unfoldable pub drift_setting_of : CallC → Option ℤ
+drift_setting_of c = cond (eqb c.size 0) None (Some (percent_of c.first))

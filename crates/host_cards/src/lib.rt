@@ -8,7 +8,7 @@ ghost use Rattle.host_record.specs.Managers.{is_flag};
 ghost use Rattle.host_cards.specs.Cards.{is_msg, is_percent, is_drift, is_call, peer_set_of, accept_bar_of, msg_of, lease_notice_of, percent_of, drift_setting_of};
 
 use bitmap::Bitmap;
-use lease::{AcceptBar, Bar, DriftSetting, LeaseMsg, LeaseNotice, PeerSet};
+use lease::{Bar, LeaseMsg, LeaseNotice};
 
 // A call. What the other fields are goes by the code; those that a code does not name are not looked at.
 #[repr(C)]
@@ -28,7 +28,7 @@ pub struct CallC {
 fn is_up_to(x: u64, high: u64) -> bool
     ensures { result ≡ within 1 x high }
 {
-    if 1 <= x { x <= high } else { false }
+    1 <= x && x <= high
 }
 
 // 0 or 1.
@@ -42,16 +42,14 @@ pub fn is_flag(n: u64) -> bool
 fn is_msg(c: CallC) -> bool
     ensures { result ≡ is_msg c }
 {
-    if c.size == 5 {
-        return is_flag(c.first);
+    match c.size {
+        5 | 7 => is_flag(c.first),
+        kind => is_up_to(kind, 6),
     }
-    if c.size == 7 {
-        return is_flag(c.first);
-    }
-    is_up_to(c.size, 6)
 }
 
 // A drift setting's percent, 128 above what it stands for.
+#[tactic(auto, unfolding(crate::specs::Cards::is_percent))]
 fn is_percent(n: u64) -> bool
     ensures { result ≡ is_percent n }
 {
@@ -62,29 +60,24 @@ fn is_percent(n: u64) -> bool
 fn is_drift(c: CallC) -> bool
     ensures { result ≡ is_drift c }
 {
-    if c.size == 0 {
-        return true;
+    match c.size {
+        0 => true,
+        1 => is_percent(c.first),
+        _ => false,
     }
-    if c.size == 1 {
-        return is_percent(c.first);
-    }
-    false
 }
 
 // Whether the card is a call: its code is 1 to 15, and what the code names is in its range.
+#[tactic(auto, unfolding(crate::specs::Cards::is_call))]
 pub fn is_call(c: CallC) -> bool
     ensures { result ≡ is_call c }
 {
-    if c.code == 3 {
-        return is_flag(c.peer);
+    match c.code {
+        3 => is_flag(c.peer),
+        6 => is_msg(c),
+        11 => is_drift(c),
+        code => is_up_to(code, 15),
     }
-    if c.code == 6 {
-        return is_msg(c);
-    }
-    if c.code == 11 {
-        return is_drift(c);
-    }
-    is_up_to(c.code, 15)
 }
 
 // ---- what they say
@@ -93,41 +86,36 @@ pub fn is_call(c: CallC) -> bool
 fn size_of(size: u64) -> u8
     ensures { result ≡ min size 255 }
 {
-    if size <= 255 { size as u8 } else { 255 }
+    u8::try_from(size).unwrap_or(u8::MAX)
 }
 
 // Size 0 is no set.
-pub fn peer_set_of(c: CallC) -> PeerSet
+#[tactic(auto, unfolding(crate::specs::Cards::peer_set_of))]
+pub fn peer_set_of(c: CallC) -> Option<Bitmap>
     ensures { result ≡ peer_set_of c }
 {
-    if c.size == 0 {
-        return PeerSet::All;
-    }
-    PeerSet::Of(Bitmap {
+    (c.size != 0).then(|| Bitmap {
         size: size_of(c.size),
         bits: c.first,
     })
 }
 
 // NewGrants: second is an accept bar where peer is 1.
-pub fn accept_bar_of(c: CallC) -> AcceptBar
+#[tactic(auto, unfolding(crate::specs::Cards::accept_bar_of))]
+pub fn accept_bar_of(c: CallC) -> Option<Bar>
     ensures { result ≡ accept_bar_of c }
 {
-    if c.peer == 1 {
-        AcceptBar::Some(Bar(c.second))
-    } else {
-        AcceptBar::None
-    }
+    (c.peer == 1).then_some(Bar(c.second))
 }
 
 // A message, by the kind in size.
+#[tactic(auto, unfolding(crate::specs::Cards::msg_of))]
 pub fn msg_of(c: CallC) -> LeaseMsg
     ensures { result ≡ msg_of c }
 {
-    let kind = c.size;
-    match kind {
-        1 => LeaseMsg::Guard(AcceptBar::None),
-        2 => LeaseMsg::Guard(AcceptBar::Some(Bar(c.first))),
+    match c.size {
+        1 => LeaseMsg::Guard(None),
+        2 => LeaseMsg::Guard(Some(Bar(c.first))),
         3 => LeaseMsg::GuardReply,
         4 => LeaseMsg::Promise,
         5 => LeaseMsg::PromiseReply(c.first == 1),
@@ -137,11 +125,11 @@ pub fn msg_of(c: CallC) -> LeaseMsg
 }
 
 // A notice, by the code.
+#[tactic(auto, unfolding(crate::specs::Cards::lease_notice_of))]
 pub fn lease_notice_of(c: CallC) -> LeaseNotice
     ensures { result ≡ lease_notice_of c }
 {
-    let code = c.code;
-    match code {
+    match c.code {
         3 => LeaseNotice::NewGrants(peer_set_of(c), accept_bar_of(c)),
         4 => LeaseNotice::DoRevoke(peer_set_of(c)),
         5 => LeaseNotice::ClearHeld,
@@ -160,11 +148,9 @@ fn percent_of(n: u64) -> i8
 }
 
 // Size 0 is a true clock.
-pub fn drift_setting_of(c: CallC) -> DriftSetting
+#[tactic(auto, unfolding(crate::specs::Cards::drift_setting_of))]
+pub fn drift_setting_of(c: CallC) -> Option<i8>
     ensures { result ≡ drift_setting_of c }
 {
-    if c.size == 0 {
-        return DriftSetting::True;
-    }
-    DriftSetting::Drifting(percent_of(c.first))
+    (c.size != 0).then(|| percent_of(c.first))
 }

@@ -1,31 +1,23 @@
 -- One call on the flat record of a manager does what the rule does on the manager: it leaves the flat record of what the rule leaves, and a
 -- question answers what the rule answers. Assumes nothing.
+use Rattle.std.specs.Prelude.{Option, None, Some, Result, Ok, Err}
 use mathlib.Core.Path.{◌≡◌, refl, sym, ap, subst, ◌∙◌}
 use mathlib.Core.Bool.{Bool, true, false, cond}
 use Prim.Native.Nat.{ℕ}
-use borrow.Author.Tests.{eqb-false}
+use native.Mathlib.Omega.{arith}
 use lib.Dec.{eqb, ltb}
+use Rattle.lease.specs.declared.Answered.{Answered}
+use Rattle.lease.specs.declared.Refusal.{Refusal}
+use Rattle.lease.specs.declared.Lines.{Lines}
+use Rattle.lease.specs.declared.Line.{Line}
+use Rattle.bitmap.specs.declared.Bitmap.{Bitmap}
 use Rattle.timer.specs.declared.Reading.{Reading}
 use Rattle.lease.specs.declared.LeaseNum.{LeaseNum}
-use Rattle.lease.specs.declared.DriftSetting.TheVariants as D
 use Rattle.lease.specs.declared.Lines.TheVariants as L
-use Rattle.lease.specs.declared.QuietEnd.TheVariants as Q
 use Rattle.lease.specs.declared.Manager.{Manager}
-use Rattle.lease.specs.declared.NoticeOutcome.{NoticeOutcome}
-use Rattle.lease.specs.declared.NoticeOutcome.TheVariants as NO
-use Rattle.lease.specs.declared.FiredTimers.{FiredTimers}
-use Rattle.lease.specs.declared.AdvanceOutcome.{AdvanceOutcome}
-use Rattle.lease.specs.declared.AdvanceOutcome.TheVariants as AO
-use Rattle.lease.specs.declared.PlainOutcome.{PlainOutcome}
-use Rattle.lease.specs.declared.PlainOutcome.TheVariants as PO
-use Rattle.lease.specs.declared.SetOutcome.{SetOutcome}
-use Rattle.lease.specs.declared.SetOutcome.TheVariants as SO
-use Rattle.lease.specs.declared.CountOutcome.{CountOutcome}
-use Rattle.lease.specs.declared.CountOutcome.TheVariants as CO
-use Rattle.lease.specs.declared.TimeLeftOutcome.{TimeLeftOutcome}
-use Rattle.lease.specs.declared.TimeLeftOutcome.TheVariants as TO
-use Rattle.lease.specs.declared.SetUpOutcome.TheVariants as UO
-use Rattle.lease.specs.declared.SetUpAnswer.{SetUpAnswer}
+use Rattle.lease.specs.declared.Advanced.{Advanced}
+use Rattle.lease.specs.Refusals.{refusal_number, unless}
+use Rattle.lease.specs.declared.Refusal.TheVariants as R
 use Rattle.lease.specs.SetUp.{setup_refusal, fresh, setup_of}
 use Rattle.lease.specs.Rules.{notice_of, advance_of, quiet_of, refresh_of, drift_of, grant_set_of, lease_set_of, lease_cnt_of, time_left_of}
 use Rattle.lease.specs.Verdicts.{Call, notice, advance, quiet-start, refresh, drift, by_notice, by_advance, by_plain, by_set, by_count, by_time_left, verdict}
@@ -35,7 +27,7 @@ use Rattle.lease_log.specs.Program.{left_by}
 use Rattle.host_record.specs.declared.ManagerC.{ManagerC}
 use Rattle.host_record.specs.Flat.{flat_of}
 use Rattle.host_record.proofs.Laws.{there_and_back, flat-is-record}
-use Rattle.host_answers.specs.Answers.{refused_answer, no_lines, one_line, two_lines, lines_answer, notice_answer, fired_answer, advance_lines, advance_answer, plain_answer, setup_answer, set_answer, count_answer}
+use Rattle.host_answers.specs.Answers.{refused_answer, no_lines, one_line, two_lines, lines_answer, notice_answer, fired_answer, advance_lines, with_fired, advance_answer, plain_answer, setup_answer, set_answer, count_answer}
 use Rattle.host_cards.specs.declared.CallC.{CallC}
 use Rattle.host_cards.specs.Cards.{is_call, lease_notice_of, peer_set_of, percent_of, drift_setting_of}
 use Rattle.host_cards.proofs.Percent.{fits8}
@@ -52,46 +44,49 @@ refused-left false m m' e = refl
 
 module _ (m : Manager) where
   -- an outcome o of a rule whose record is m': what the call leaves is what the verdict leaves
-  notice-left : (o : NoticeOutcome) (m' : Manager) → ((k : ℕ) → o ≡ NO.Refused k → m' ≡ m)
+  notice-left : (o : Result Lines Refusal) (m' : Manager) → ((k : Refusal) → o ≡ Err k → m' ≡ m)
       → (left (flat_of m) (notice_answer o) m').manager ≡ flat_of (left_by m (by_notice o m'))
   unfolding left notice_answer refused_answer lines_answer no_lines one_line two_lines
-  notice-left (NO.Refused k) m' h = refused-left (eqb k 0) m m' (h k refl)
-  notice-left (NO.Done L.None) m' h = refl
-  notice-left (NO.Done (L.One a)) m' h = refl
-  notice-left (NO.Done (L.Two a b)) m' h = refl
-  notice-left (NO.Done (L.Three a b c)) m' h = refl
+  notice-left (Err k) m' h = refused-left (eqb (refusal_number k) 0) m m' (h k refl)
+  notice-left (Ok L.None) m' h = refl
+  notice-left (Ok (L.One a)) m' h = refl
+  notice-left (Ok (L.Two a b)) m' h = refl
+  notice-left (Ok (L.Three a b c)) m' h = refl
 
-  advance-left : (o : AdvanceOutcome) (fired : FiredTimers) (m' : Manager) → ((k : ℕ) → o ≡ AO.Refused k → m' ≡ m)
-      → (left (flat_of m) (advance_answer (record { outcome = o; fired = fired })) m').manager ≡ flat_of (left_by m (by_advance o m'))
+  advance-left : (o : Result Advanced Refusal) (m' : Manager) → ((k : Refusal) → o ≡ Err k → m' ≡ m)
+      → (left (flat_of m) (advance_answer o) m').manager ≡ flat_of (left_by m (by_advance o m'))
   unfolding left advance_answer advance_lines refused_answer fired_answer one_line two_lines
-  advance-left (AO.Refused k) fired m' h = refused-left (eqb k 0) m m' (h k refl)
-  advance-left (AO.Fired sent held Q.None) fired m' h = refl
-  advance-left (AO.Fired sent held (Q.Given line)) fired m' h = refl
+  advance-left (Err k) m' h = refused-left (eqb (refusal_number k) 0) m m' (h k refl)
+  advance-left (Ok a) m' h = go a.quiet_end
+    where
+      go : (end : Option Line) → (left (flat_of m) (with_fired (fired_answer a.sent a.held end) a.fired) m').manager ≡ flat_of m'
+      go None = refl
+      go (Some line) = refl
 
-  plain-left : (o : PlainOutcome) (m' : Manager) → ((k : ℕ) → o ≡ PO.Refused k → m' ≡ m)
+  plain-left : (o : Result (Unit {0}) Refusal) (m' : Manager) → ((k : Refusal) → o ≡ Err k → m' ≡ m)
       → (left (flat_of m) (plain_answer o) m').manager ≡ flat_of (left_by m (by_plain o m'))
   unfolding left plain_answer refused_answer no_lines
-  plain-left (PO.Refused k) m' h = refused-left (eqb k 0) m m' (h k refl)
-  plain-left PO.Done m' h = refl
+  plain-left (Err k) m' h = refused-left (eqb (refusal_number k) 0) m m' (h k refl)
+  plain-left (Ok tt) m' h = refl
 
-  set-left : (o : SetOutcome) (m' : Manager) → ((k : ℕ) → o ≡ SO.Refused k → m' ≡ m)
+  set-left : (o : Result Bitmap Refusal) (m' : Manager) → ((k : Refusal) → o ≡ Err k → m' ≡ m)
       → (left (flat_of m) (set_answer o) m').manager ≡ flat_of (left_by m (by_set o m'))
   unfolding left set_answer refused_answer one_line
-  set-left (SO.Refused k) m' h = refused-left (eqb k 0) m m' (h k refl)
-  set-left (SO.Ids set) m' h = refl
+  set-left (Err k) m' h = refused-left (eqb (refusal_number k) 0) m m' (h k refl)
+  set-left (Ok set) m' h = refl
 
   -- a question leaves the record
-  set-kept : (o : SetOutcome) → flat_of m ≡ flat_of (left_by m (by_set o m))
-  set-kept (SO.Refused k) = refl
-  set-kept (SO.Ids set) = refl
+  set-kept : (o : Result Bitmap Refusal) → flat_of m ≡ flat_of (left_by m (by_set o m))
+  set-kept (Err k) = refl
+  set-kept (Ok set) = refl
 
-  count_kept : (o : CountOutcome) → flat_of m ≡ flat_of (left_by m (by_count o m))
-  count_kept (CO.Refused k) = refl
-  count_kept (CO.Count n) = refl
+  count_kept : (o : Result ℕ Refusal) → flat_of m ≡ flat_of (left_by m (by_count o m))
+  count_kept (Err k) = refl
+  count_kept (Ok n) = refl
 
-  time-left-kept : (o : TimeLeftOutcome) → flat_of m ≡ flat_of (left_by m (by_time_left o m))
-  time-left-kept (TO.Refused k) = refl
-  time-left-kept (TO.Left x) = refl
+  time-left-kept : (o : Result (Option ℕ) Refusal) → flat_of m ≡ flat_of (left_by m (by_time_left o m))
+  time-left-kept (Err k) = refl
+  time-left-kept (Ok x) = refl
 
   -- what is claimed of a call's result r: it leaves the flat record of what the rule leaves
   abbrev Leaves : CalledC → Call → Type 0
@@ -109,8 +104,8 @@ module _ (m : Manager) where
   unfolding advance_c
   advance-leaves c =
       let to : Reading = record { 0 = c.number } in
-      subst (λ (z : Manager). Leaves (left (flat_of m) (advance_answer (advance_of z to).advanced) (advance_of z to).manager) (advance to)) (sym (there_and_back m))
-      (advance-left (advance_of m to).advanced.outcome (advance_of m to).advanced.fired (advance_of m to).manager ((refusals-keep m).advances to))
+      subst (λ (z : Manager). Leaves (left (flat_of m) (advance_answer (advance_of z to).outcome) (advance_of z to).manager) (advance to)) (sym (there_and_back m))
+      (advance-left (advance_of m to).outcome (advance_of m to).manager ((refusals-keep m).advances to))
 
   quiet-leaves : Leaves (quiet_c (flat_of m)) quiet-start
   unfolding quiet_c
@@ -182,23 +177,36 @@ unfolding call_of is_call
 setup-called f c e = rw e
 
 -- the rule's answer to the card
-abbrev pub set_up_by : CallC → SetUpAnswer
+abbrev pub set_up_by : CallC → Answered (Unit {0})
 set_up_by c = setup_of c.peer c.size c.first c.second (record { 0 = c.number })
 
+-- no refusal has the number 0
+not_0 : (k : Refusal) → refusal_number k ≡ 0 → ⊥
+not_0 R.TimeoutOutOfRange z = omega arith
+not_0 R.HeartbeatTooSlow z = omega arith
+not_0 R.PopulationOutOfRange z = omega arith
+not_0 R.OwnNotBelowPopulation z = omega arith
+not_0 R.ReadingTooHigh z = omega arith
+not_0 R.ReadingBelowPresent z = omega arith
+not_0 R.PeerNotBelowPopulation z = omega arith
+not_0 R.PeerIsOwn z = omega arith
+not_0 R.SetSizeNotPopulation z = omega arith
+not_0 R.SetSizeOutOfRange z = omega arith
+not_0 R.InvalidRecord z = omega arith
+
 -- an answer that is no refusal is set-up's `Done`
-pub setup-done : (f : ManagerC) (c : CallC) → c.code ≡ 1 → (call_of f c).answer.refused ≡ 0 → (set_up_by c).outcome ≡ UO.Done
-unfolding setup_c left setup_of setup_answer refused_answer
-setup-done f c e h = go (eqb code 0) refl (ap (λ (r : CalledC). r.answer.refused) (sym (setup-called f c e)) ∙ h)
+pub setup-done : (f : ManagerC) (c : CallC) → c.code ≡ 1 → (call_of f c).answer.refused ≡ 0 → (set_up_by c).outcome ≡ (Ok tt)
+unfolding setup_c left setup_of setup_answer plain_answer refused_answer
+setup-done f c e h = go (setup_refusal c.peer c.size c.first c.second (record { 0 = c.number })) (ap (λ (r : CalledC). r.answer.refused) (sym (setup-called f c e)) ∙ h)
   where
-    code : ℕ
-    code = setup_refusal c.peer c.size c.first c.second (record { 0 = c.number })
+    by : Result (Unit {0}) Refusal → Answered (Unit {0})
+    by o =
+        unless o (λ k. record { outcome = Err k; manager = fresh 0 0 0 (record { 0 = 0 }) })
+        (record { outcome = Ok tt; manager = fresh c.peer c.size c.first (record { 0 = c.number }) })
 
-    by : Bool → SetUpAnswer
-    by b = cond b (record { outcome = UO.Done; manager = fresh c.peer c.size c.first (record { 0 = c.number }) }) (record { outcome = UO.Refused code; manager = fresh 0 0 0 (record { 0 = 0 }) })
-
-    go : (b : Bool) → eqb code 0 ≡ b → (setup_answer (by b).outcome).refused ≡ 0 → (by b).outcome ≡ UO.Done
-    go true q z = refl
-    go false q z = absurd (eqb-false code 0 q z)
+    go : (o : Result (Unit {0}) Refusal) → (setup_answer (by o).outcome).refused ≡ 0 → (by o).outcome ≡ (Ok tt)
+    go (Ok tt) z = refl
+    go (Err k) z = absurd (not_0 k z)
 
 -- and it leaves the flat record of the manager that set-up gives
 pub setup-leaves : (f : ManagerC) (c : CallC) → c.code ≡ 1 → (call_of f c).answer.refused ≡ 0 → (call_of f c).manager ≡ flat_of (set_up_by c).manager
@@ -218,7 +226,7 @@ drift-typed : (c : CallC) → Typed (drift (drift_setting_of c))
 unfolding drift_setting_of percent_of
 drift-typed c = go (eqb c.size 0)
   where
-    go : (b : Bool) → Typed (drift (cond b D.True (D.Drifting (percent_of c.first))))
+    go : (b : Bool) → Typed (drift (cond b None (Some (percent_of c.first))))
     go true = tt
     go false = fits8 c.first
 

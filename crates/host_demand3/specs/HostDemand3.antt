@@ -3,9 +3,7 @@
 -- the count of Promise lines, are what the log of the rules' actions says. A step is what the call's contract ensures (CallContracts); the log
 -- is the rules' own over the calls that the cards stand for, and is told nothing of the flat record (lease_log/specs/Log). Definitions only;
 -- proved in proofs/HostDemand3.
-use Rattle.std.specs.Prelude.{◌≡◌, cond, List, [], ◌∷◌, ℕ, eqb, ltb}
-use Rattle.lease.specs.declared.SetOutcome.TheVariants as SO
-use Rattle.lease.specs.declared.CountOutcome.TheVariants as CO
+use Rattle.std.specs.Prelude.{◌≡◌, cond, List, [], ◌∷◌, ℕ, eqb, ltb, Ok}
 use Rattle.lease.specs.Verdicts.{Call, notice, advance, quiet-start, refresh, drift, grant-set, lease-set, lease-cnt, time-left}
 use Rattle.lease_log.specs.Log.{Journal}
 use Rattle.lease_log.specs.Demand3.{Balanced, grants_by, leases_by, lease_count_by, run_of}
@@ -64,10 +62,10 @@ journal_of c₀ cards = (run_of c₀.peer c₀.size c₀.first c₀.second (reco
 
 -- What the answers g, l and k to grant set, lease set and lease count have to be.
 pub record HostAnswers (me n t : ℕ) (j : Journal) (g l k : AnswerC) : Type 0 where
-  pub grants : g ≡ set_answer (SO.Ids (grants_by me n t j))
+  pub grants : g ≡ set_answer (Ok (grants_by me n t j))
   pub promises : Balanced n j
-  pub leases : l ≡ set_answer (SO.Ids (leases_by n t j))
-  pub count : k ≡ count_answer (CO.Count (lease_count_by n t j))
+  pub leases : l ≡ set_answer (Ok (leases_by n t j))
+  pub count : k ≡ count_answer (Ok (lease_count_by n t j))
 
 -- c₀ is a set-up card, f₀ any record, r₀ its answer, which is no refusal, and f₁ the record that it left; the cards have led from f₁ to f;
 -- g, l and k are what the cards 12, 13 and 14 answer on f. Then g, l and k, and the count of Promise lines, are what the rules' own log of

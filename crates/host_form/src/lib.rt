@@ -3,21 +3,19 @@
 #![tactic(auto)]
 
 ghost use Rattle.std.specs.Prelude.{◌≡◌};
-ghost use Rattle.host_record.specs.Managers.{is_entry, is_flag, is_revoking, is_grant, is_row, all_of, is_clock, is_quiet, is_record};
+ghost use Rattle.std.specs.List.{list_all};
+ghost use Rattle.host_record.specs.Managers.{is_entry, is_flag, is_revoking, is_grant, is_row, is_clock, is_quiet, is_record};
 
 use host_record::{ManagerC, PeerC};
-use rows::both;
 
 fn is_entry(tag: u8, at: u64) -> bool
     ensures { result ≡ is_entry tag at }
 {
-    if tag == 2 {
-        return true;
+    match tag {
+        2 => true,
+        0 | 1 | 3 => at == 0,
+        _ => false,
     }
-    if tag < 4 {
-        return at == 0;
-    }
-    false
 }
 
 fn is_flag(n: u8) -> bool
@@ -30,73 +28,55 @@ fn is_revoking(tag: u8, revoking: u8) -> bool
     ensures { result ≡ is_revoking tag revoking }
 {
     if tag == 0 {
-        return revoking == 0;
+        revoking == 0
+    } else {
+        is_flag(revoking)
     }
-    is_flag(revoking)
 }
 
 fn is_grant(tag: u8, at: u64, revoking: u8) -> bool
     ensures { result ≡ is_grant tag at revoking }
 {
-    let flag = is_revoking(tag, revoking);
-    let entry = is_entry(tag, at);
-    both(flag, entry)
+    is_revoking(tag, revoking) && is_entry(tag, at)
 }
 
+#[tactic(auto, unfolding(host_record::specs::Managers::is_row))]
 fn is_row(p: PeerC) -> bool
     ensures { result ≡ is_row p }
 {
-    let guard_sent = is_entry(p.guard_sent, p.guard_sent_at);
-    let promise_sent = is_grant(p.promise_sent, p.promise_sent_at, p.revoking);
-    let guard_held = is_entry(p.guard_held, p.guard_held_at);
-    let promise_held = is_entry(p.promise_held, p.promise_held_at);
-    let mark = is_flag(p.refresh_mark);
-    let sent = both(guard_sent, promise_sent);
-    let held = both(guard_held, promise_held);
-    let entries = both(sent, held);
-    both(entries, mark)
+    let sent = is_entry(p.guard_sent, p.guard_sent_at)
+        && is_grant(p.promise_sent, p.promise_sent_at, p.revoking);
+    let held = is_entry(p.guard_held, p.guard_held_at)
+        && is_entry(p.promise_held, p.promise_held_at);
+    sent && held && is_flag(p.refresh_mark)
 }
 
 fn are_rows(peers: [PeerC; 64]) -> bool
-    ensures { result ≡ all_of is_row peers }
+    ensures { result ≡ list_all is_row peers }
 {
-    let mut valid = true;
-    let mut i: usize = 0;
-    while i < 64 {
-        let flat = peers[i];
-        let row = is_row(flat);
-        valid = both(valid, row);
-        i = i + 1;
-    }
-    valid
+    peers.iter().all(|p| is_row(*p))
 }
 
 fn is_clock(drifting: u8, q: f64) -> bool
     ensures { result ≡ is_clock drifting q }
 {
     if drifting == 0 {
-        return q == 1.0;
+        q == 1.0
+    } else {
+        is_flag(drifting)
     }
-    is_flag(drifting)
 }
 
 fn is_quiet(quiet: u8, at: u64) -> bool
     ensures { result ≡ is_quiet quiet at }
 {
-    if quiet == 0 {
-        return at == 0;
-    }
-    is_flag(quiet)
+    if quiet == 0 { at == 0 } else { is_flag(quiet) }
 }
 
 // The whole record.
+#[tactic(auto, unfolding(host_record::specs::Managers::is_record))]
 pub fn is_record(f: ManagerC) -> bool
     ensures { result ≡ is_record f }
 {
-    let peers = f.peers;
-    let clock = is_clock(f.drifting, f.quotient);
-    let quiet = is_quiet(f.quiet, f.quiet_until);
-    let rows = are_rows(peers);
-    let a = both(clock, quiet);
-    both(a, rows)
+    is_clock(f.drifting, f.quotient) && is_quiet(f.quiet, f.quiet_until) && are_rows(f.peers)
 }

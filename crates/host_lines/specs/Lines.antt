@@ -1,16 +1,13 @@
 -- The lines of an answer as they cross to C, plain numbers. A field that a line does not use is 0. Definitions only.
-use Rattle.std.specs.Prelude.{ℕ}
+use Rattle.std.specs.Prelude.{ℕ, Option, None, Some}
+use Rattle.lease.specs.declared.Bar.{Bar}
 use Rattle.bitmap.specs.declared.Bitmap.{Bitmap}
 use Rattle.bitmap.specs.Bitmaps as bitmaps
-use Rattle.lease.specs.declared.AcceptBar.{AcceptBar}
-use Rattle.lease.specs.declared.AcceptBar.TheVariants as B
 use Rattle.lease.specs.declared.LeaseMsg.{LeaseMsg}
 use Rattle.lease.specs.declared.LeaseMsg.TheVariants as M
 use Rattle.lease.specs.declared.LeaseAction.{LeaseAction}
 use Rattle.lease.specs.declared.LeaseAction.TheVariants as A
 use Rattle.lease.specs.declared.Line.{Line}
-use Rattle.lease.specs.declared.TimeLeft.{TimeLeft}
-use Rattle.lease.specs.declared.TimeLeft.TheVariants as T
 use Rattle.host_record.specs.Flat.{flag}
 use Rattle.host_lines.specs.declared.LineC.{LineC}
 
@@ -31,9 +28,9 @@ send_line num id M.Revoke = line_c 0 num id 0 0
 send_line num id (M.RevokeReply held) = line_c 6 num id (flag held) 0
 
 -- A Guard broadcast to the peers of a set: peer is 1 where second is an accept bar.
-abbrev pub guard_line : ℕ → ℕ → AcceptBar → LineC
-guard_line num set B.None = line_c 1 num 0 set 0
-guard_line num set (B.Some bar) = line_c 1 num 1 set bar.0
+abbrev pub guard_line : ℕ → ℕ → Option Bar → LineC
+guard_line num set None = line_c 1 num 0 set 0
+guard_line num set (Some bar) = line_c 1 num 1 set bar.0
 
 -- A message to the peers of a set. The rules broadcast Guard and Revoke alone: any other has code 0.
 abbrev pub bcast_line : ℕ → ℕ → LeaseMsg → LineC
@@ -69,6 +66,6 @@ abbrev pub count_line : ℕ → LineC
 count_line n = line_c 33 0 0 n 0
 
 -- Peer is 1 where a promise is held.
-abbrev pub time_left_line : TimeLeft → LineC
-time_left_line T.None = line_c 34 0 0 0 0
-time_left_line (T.Ms ms) = line_c 34 0 1 ms 0
+abbrev pub time_left_line : Option ℕ → LineC
+time_left_line None = line_c 34 0 0 0 0
+time_left_line (Some ms) = line_c 34 0 1 ms 0

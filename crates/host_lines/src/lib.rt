@@ -3,11 +3,10 @@
 #![tactic(auto)]
 
 ghost use Rattle.std.specs.Prelude.{◌≡◌};
-ghost use Rattle.host_record.specs.Flat.{flag};
 ghost use Rattle.host_lines.specs.Lines.{line_c, no_line, send_line, guard_line, bcast_line, action_line, line_of, fired_line, set_line, time_left_line};
 
 use bitmap::Bitmap;
-use lease::{AcceptBar, LeaseAction, LeaseMsg, Line, Lines, ReplicaId, TimeLeft};
+use lease::{Bar, LeaseAction, LeaseMsg, Line, ReplicaId};
 
 // One line. What first and second are, and whether peer is an id, a size or a flag, goes by the code.
 #[repr(C)]
@@ -18,13 +17,6 @@ pub struct LineC {
     pub peer: u64,
     pub first: u64,
     pub second: u64,
-}
-
-// A bool as a number.
-pub fn flag_of(on: bool) -> u64
-    ensures { result ≡ flag on }
-{
-    if on { 1 } else { 0 }
 }
 
 pub fn line_c(code: u64, number: u64, peer: u64, first: u64) -> LineC
@@ -44,22 +36,21 @@ fn send_line(number: u64, id: ReplicaId, msg: LeaseMsg) -> LineC
     ensures { result ≡ send_line number id msg }
 {
     match msg {
-        LeaseMsg::Guard(_) => line_c(0, number, id as u64, 0),
         LeaseMsg::GuardReply => line_c(3, number, id as u64, 0),
         LeaseMsg::Promise => line_c(4, number, id as u64, 0),
-        LeaseMsg::PromiseReply(held) => line_c(5, number, id as u64, flag_of(held)),
-        LeaseMsg::Revoke => line_c(0, number, id as u64, 0),
-        LeaseMsg::RevokeReply(held) => line_c(6, number, id as u64, flag_of(held)),
+        LeaseMsg::PromiseReply(held) => line_c(5, number, id as u64, u64::from(held)),
+        LeaseMsg::RevokeReply(held) => line_c(6, number, id as u64, u64::from(held)),
+        LeaseMsg::Guard(_) | LeaseMsg::Revoke => line_c(0, number, id as u64, 0),
     }
 }
 
 // A Guard broadcast: peer is 1 where second is an accept bar.
-fn guard_line(number: u64, set: u64, bar: AcceptBar) -> LineC
+fn guard_line(number: u64, set: u64, bar: Option<Bar>) -> LineC
     ensures { result ≡ guard_line number set bar }
 {
     match bar {
-        AcceptBar::None => line_c(1, number, 0, set),
-        AcceptBar::Some(x) => LineC {
+        None => line_c(1, number, 0, set),
+        Some(x) => LineC {
             code: 1,
             number,
             peer: 1,
@@ -75,11 +66,11 @@ fn bcast_line(number: u64, set: u64, msg: LeaseMsg) -> LineC
 {
     match msg {
         LeaseMsg::Guard(bar) => guard_line(number, set, bar),
-        LeaseMsg::GuardReply => line_c(0, number, 0, 0),
-        LeaseMsg::Promise => line_c(0, number, 0, 0),
-        LeaseMsg::PromiseReply(_) => line_c(0, number, 0, 0),
         LeaseMsg::Revoke => line_c(2, number, 0, set),
-        LeaseMsg::RevokeReply(_) => line_c(0, number, 0, 0),
+        LeaseMsg::GuardReply
+        | LeaseMsg::Promise
+        | LeaseMsg::PromiseReply(_)
+        | LeaseMsg::RevokeReply(_) => line_c(0, number, 0, 0),
     }
 }
 
@@ -90,7 +81,7 @@ fn action_line(number: u64, action: LeaseAction) -> LineC
         LeaseAction::SendLeaseMsg(id, msg) => send_line(number, id, msg),
         LeaseAction::BcastLeaseMsgs(set, msg) => bcast_line(number, set.bits, msg),
         LeaseAction::NextRefresh(id) => line_c(7, number, id as u64, 0),
-        LeaseAction::GrantRemoved(id, held) => line_c(8, number, id as u64, flag_of(held)),
+        LeaseAction::GrantRemoved(id, held) => line_c(8, number, id as u64, u64::from(held)),
         LeaseAction::LeaseCleared => line_c(9, number, 0, 0),
         LeaseAction::GrantTimeout(id) => line_c(10, number, id as u64, 0),
         LeaseAction::LeaseTimeout(id) => line_c(11, number, id as u64, 0),
@@ -100,11 +91,11 @@ fn action_line(number: u64, action: LeaseAction) -> LineC
 }
 
 // A numbered action.
+#[tactic(auto, unfolding(crate::specs::Lines::line_of))]
 pub fn line_of(line: Line) -> LineC
     ensures { result ≡ line_of line }
 {
-    let num = line.0;
-    let action = line.1;
+    let Line(num, action) = line;
     action_line(num.0, action)
 }
 
@@ -124,17 +115,14 @@ pub fn fired_line(sent: Bitmap, held: Bitmap) -> LineC
 pub fn set_line(set: Bitmap) -> LineC
     ensures { result ≡ set_line set }
 {
-    line_c(32, 0, set.size as u64, set.bits)
+    line_c(32, 0, u64::from(set.size), set.bits)
 }
 
 // Peer is 1 where a promise is held.
-pub fn time_left_line(left: TimeLeft) -> LineC
+pub fn time_left_line(left: Option<u64>) -> LineC
     ensures { result ≡ time_left_line left }
 {
-    match left {
-        TimeLeft::None => line_c(34, 0, 0, 0),
-        TimeLeft::Ms(ms) => line_c(34, 0, 1, ms),
-    }
+    left.map_or(line_c(34, 0, 0, 0), |ms| line_c(34, 0, 1, ms))
 }
 
 // All zeros.

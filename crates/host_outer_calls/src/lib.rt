@@ -14,37 +14,26 @@ use host_record::ManagerC;
 use host_rules::CalledC;
 use outer_calls::{assume_unknown_grants, attempt_refresh};
 
+#[tactic(auto, unfolding(host_rules::specs::Calls::quiet_c))]
 pub fn quiet_c(f: ManagerC) -> CalledC
     ensures { result ≡ quiet_c f }
 {
-    let m = manager_of(f);
-    let a = assume_unknown_grants(m);
-    let outcome = a.outcome;
-    let manager = a.manager;
-    let answer = plain_answer(outcome);
-    left_by(f, answer, manager)
+    let a = assume_unknown_grants(manager_of(f));
+    left_by(f, plain_answer(a.outcome), a.manager)
 }
 
+#[tactic(auto, unfolding(host_rules::specs::Calls::refresh_c))]
 pub fn refresh_c(f: ManagerC, c: CallC) -> CalledC
     ensures { result ≡ refresh_c f c }
 {
-    let m = manager_of(f);
-    let set = peer_set_of(c);
-    let a = attempt_refresh(m, set);
-    let outcome = a.outcome;
-    let manager = a.manager;
-    let answer = set_answer(outcome);
-    left_by(f, answer, manager)
+    let a = attempt_refresh(manager_of(f), peer_set_of(c));
+    left_by(f, set_answer(a.outcome), a.manager)
 }
 
+#[tactic(auto, unfolding(host_rules::specs::Calls::drift_c))]
 pub fn drift_c(f: ManagerC, c: CallC) -> CalledC
     ensures { result ≡ drift_c f c }
 {
-    let m = manager_of(f);
-    let setting = drift_setting_of(c);
-    let a = set_drift(m, setting);
-    let outcome = a.outcome;
-    let manager = a.manager;
-    let answer = plain_answer(outcome);
-    left_by(f, answer, manager)
+    let a = set_drift(manager_of(f), drift_setting_of(c));
+    left_by(f, plain_answer(a.outcome), a.manager)
 }

@@ -13,60 +13,53 @@ use host_rules::CalledC;
 use questions::{grant_set, lease_cnt, lease_set, time_left};
 
 // The record as it was lent, with the answer.
+#[tactic(auto, unfolding(host_rules::specs::Calls::kept))]
 pub fn kept_by(f: ManagerC, answer: AnswerC) -> CalledC
     ensures { result ≡ kept f answer }
 {
     CalledC { answer, manager: f }
 }
 
+#[tactic(auto, unfolding(host_rules::specs::Calls::grant_set_c))]
 fn grant_set_c(f: ManagerC) -> CalledC
     ensures { result ≡ grant_set_c f }
 {
-    let m = manager_of(f);
-    let outcome = grant_set(m);
-    let answer = set_answer(outcome);
-    kept_by(f, answer)
+    kept_by(f, set_answer(grant_set(manager_of(f))))
 }
 
+#[tactic(auto, unfolding(host_rules::specs::Calls::lease_set_c))]
 fn lease_set_c(f: ManagerC) -> CalledC
     ensures { result ≡ lease_set_c f }
 {
-    let m = manager_of(f);
-    let outcome = lease_set(m);
-    let answer = set_answer(outcome);
-    kept_by(f, answer)
+    kept_by(f, set_answer(lease_set(manager_of(f))))
 }
 
+#[tactic(auto, unfolding(host_rules::specs::Calls::lease_cnt_c))]
 fn lease_cnt_c(f: ManagerC) -> CalledC
     ensures { result ≡ lease_cnt_c f }
 {
-    let m = manager_of(f);
-    let outcome = lease_cnt(m);
-    let answer = count_answer(outcome);
-    kept_by(f, answer)
+    kept_by(f, count_answer(lease_cnt(manager_of(f))))
 }
 
+#[tactic(auto, unfolding(host_rules::specs::Calls::time_left_c))]
 fn time_left_c(f: ManagerC, c: CallC) -> CalledC
     ensures { result ≡ time_left_c f c }
 {
-    let m = manager_of(f);
-    let outcome = time_left(m, c.peer as usize);
-    let answer = time_left_answer(outcome);
-    kept_by(f, answer)
+    kept_by(
+        f,
+        time_left_answer(time_left(manager_of(f), c.peer as usize)),
+    )
 }
 
 // Any question, by its code.
+#[tactic(auto, unfolding(host_rules::specs::Calls::question_c))]
 pub fn question_c(f: ManagerC, c: CallC) -> CalledC
     ensures { result ≡ question_c f c }
 {
-    if c.code == 12 {
-        return grant_set_c(f);
+    match c.code {
+        12 => grant_set_c(f),
+        13 => lease_set_c(f),
+        14 => lease_cnt_c(f),
+        _ => time_left_c(f, c),
     }
-    if c.code == 13 {
-        return lease_set_c(f);
-    }
-    if c.code == 14 {
-        return lease_cnt_c(f);
-    }
-    time_left_c(f, c)
 }

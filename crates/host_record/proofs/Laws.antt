@@ -1,51 +1,45 @@
 -- The claims of specs/Claims.antt: entry by entry, then row by row. Assumes nothing.
+use Rattle.std.specs.Prelude.{Option, None, Some}
 use Prim.Native.Nat.{ℕ, zero, suc, ◌<◌, ◌≤◌}
-use mathlib.Core.Path.{◌≡◌, refl, sym, ap, ◌∙◌, subst}
+use mathlib.Core.Path.{◌≡◌, refl, sym, subst}
 use mathlib.Core.Bool.{Bool, true, false, cond, ◌&&◌, true≢false}
 use mathlib.Core.List.{List, [], ◌∷◌, map}
 use native.Mathlib.Omega.{arith}
-use borrow.Author.Tests.{ltb-true, eqb-true, ne_eqb}
-use lib.Dec.{T, eqb, ltb, eqb→eq, lit≤, lit<}
+use borrow.Author.Tests.{ltb-true, eqb-true}
+use lib.Dec.{T, eqb, ltb, lit≤, lit<}
 use lib.Pow.{pow_pos}
 use lib.Ieee.{Float, binary64, eq, fits}
-use lib.Ieee.Fits.{and_l, and_r}
+use Rattle.timer.specs.declared.Reading.{Reading}
 use Rattle.drift.specs.declared.Clock.{Clock}
 use Rattle.drift.specs.declared.Clock.TheVariants.{True, Drifting}
-use Rattle.drift.specs.Drift.{quotient_at}
+use Rattle.std.specs.List.{list_all}
 use Rattle.drift.proofs.Rounded.{L}
 use Rattle.drift.proofs.Same.{eq-value, eq_refl, value-unique}
 use Rattle.drift.proofs.Quotients.{value, value_pos, has_value, quotient_fits}
 use Rattle.timer.specs.declared.Timer.{Timer}
 use Rattle.timer.specs.declared.Timer.TheVariants.{Unarmed, Armed, Exploded}
-use Rattle.lease.specs.declared.Entry.{Entry}
-use Rattle.lease.specs.declared.Entry.TheVariants.{Absent, Present}
-use Rattle.lease.specs.declared.Grant.{Grant}
-use Rattle.lease.specs.declared.Grant.TheVariants as G
 use Rattle.lease.specs.declared.Peer.{Peer}
-use Rattle.lease.specs.declared.QuietTimer.{QuietTimer}
-use Rattle.lease.specs.declared.QuietTimer.TheVariants as Q
 use Rattle.host_record.specs.declared.PeerC.{PeerC}
-use Rattle.host_record.specs.declared.ManagerC.{ManagerC}
-use Rattle.host_record.specs.Flat.{flag, timer_tag, timer_at, entry_tag, entry_at, grant_tag, grant_at, grant_revoking, flat_row, true_quotient, clock_drifting, clock_quotient, quiet_flag, quiet_at, flat_of}
-use Rattle.host_record.specs.Managers.{timer_of, entry_of, grant_of, row_of, clock_of, quiet_timer_of, manager_of, is_entry, is_flag, is_grant, is_row, all_of, is_clock, is_quiet, is_record}
+use Rattle.host_record.specs.Flat.{flag, entry_tag, entry_at, grant_tag, grant_at, grant_revoking, flat_row, true_quotient, clock_drifting, clock_quotient, quiet_flag, quiet_at, flat_of}
+use Rattle.host_record.specs.Managers.{entry_of, grant_of, row_of, clock_of, quiet_timer_of, manager_of, is_entry, is_flag, is_grant, is_row, is_clock, is_quiet, is_record}
 use Rattle.host_record.specs.Claims.{ThereAndBack, FlatIsRecord, BackAndThere}
 
 -- ---- there and back
 
-entry-back : (e : Entry) → entry_of (entry_tag e) (entry_at e) ≡ e
-entry-back Absent = refl
-entry-back (Present Unarmed) = refl
-entry-back (Present (Armed d)) = refl
-entry-back (Present Exploded) = refl
+entry-back : (e : Option Timer) → entry_of (entry_tag e) (entry_at e) ≡ e
+entry-back None = refl
+entry-back (Some Unarmed) = refl
+entry-back (Some (Armed d)) = refl
+entry-back (Some Exploded) = refl
 
-grant-back : (g : Grant) → grant_of (grant_tag g) (grant_at g) (grant_revoking g) ≡ g
-grant-back G.Absent = refl
-grant-back (G.Present Unarmed true) = refl
-grant-back (G.Present Unarmed false) = refl
-grant-back (G.Present (Armed d) true) = refl
-grant-back (G.Present (Armed d) false) = refl
-grant-back (G.Present Exploded true) = refl
-grant-back (G.Present Exploded false) = refl
+grant-back : (g : Option (Timer × Bool)) → grant_of (grant_tag g) (grant_at g) (grant_revoking g) ≡ g
+grant-back None = refl
+grant-back (Some (Unarmed, true)) = refl
+grant-back (Some (Unarmed, false)) = refl
+grant-back (Some (Armed d, true)) = refl
+grant-back (Some (Armed d, false)) = refl
+grant-back (Some (Exploded, true)) = refl
+grant-back (Some (Exploded, false)) = refl
 
 flag-back : (b : Bool) → eqb (flag b) 1 ≡ b
 flag-back true = refl
@@ -70,9 +64,9 @@ clock-back : (c : Clock) → clock_of (clock_drifting c) (clock_quotient c) ≡ 
 clock-back True = refl
 clock-back (Drifting q) = refl
 
-quiet-back : (t : QuietTimer) → quiet_timer_of (quiet_flag t) (quiet_at t) ≡ t
-quiet-back Q.None = refl
-quiet-back (Q.Until d) = refl
+quiet-back : (t : Option Reading) → quiet_timer_of (quiet_flag t) (quiet_at t) ≡ t
+quiet-back None = refl
+quiet-back (Some d) = refl
 
 pub there_and_back : ThereAndBack
 unfolding manager_of flat_of
@@ -90,20 +84,20 @@ there_and_back m = λ i.
 
 -- ---- what comes of it is a record
 
-entry-is : (e : Entry) → is_entry (entry_tag e) (entry_at e) ≡ true
-entry-is Absent = refl
-entry-is (Present Unarmed) = refl
-entry-is (Present (Armed d)) = refl
-entry-is (Present Exploded) = refl
+entry-is : (e : Option Timer) → is_entry (entry_tag e) (entry_at e) ≡ true
+entry-is None = refl
+entry-is (Some Unarmed) = refl
+entry-is (Some (Armed d)) = refl
+entry-is (Some Exploded) = refl
 
-grant-is : (g : Grant) → is_grant (grant_tag g) (grant_at g) (grant_revoking g) ≡ true
-grant-is G.Absent = refl
-grant-is (G.Present Unarmed true) = refl
-grant-is (G.Present Unarmed false) = refl
-grant-is (G.Present (Armed d) true) = refl
-grant-is (G.Present (Armed d) false) = refl
-grant-is (G.Present Exploded true) = refl
-grant-is (G.Present Exploded false) = refl
+grant-is : (g : Option (Timer × Bool)) → is_grant (grant_tag g) (grant_at g) (grant_revoking g) ≡ true
+grant-is None = refl
+grant-is (Some (Unarmed, true)) = refl
+grant-is (Some (Unarmed, false)) = refl
+grant-is (Some (Armed d, true)) = refl
+grant-is (Some (Armed d, false)) = refl
+grant-is (Some (Exploded, true)) = refl
+grant-is (Some (Exploded, false)) = refl
 
 flag_is : (b : Bool) → is_flag (flag b) ≡ true
 flag_is true = refl
@@ -113,8 +107,7 @@ row_is : (row : Peer) → is_row (flat_row row) ≡ true
 unfolding is_row flat_row
 row_is row = simp (entry-is row.guard_sent, grant-is row.promise_sent, entry-is row.guard_held, entry-is row.promise_held, flag_is row.refresh_mark)
 
-rows_are : (rows : List Peer) → all_of is_row (map flat_row rows) ≡ true
-unfolding all_of
+rows_are : (rows : List Peer) → list_all is_row (map flat_row rows) ≡ true
 rows_are [] = refl
 rows_are (row ∷ rows) = simp (row_is row, rows_are rows)
 
@@ -125,9 +118,9 @@ clock-is : (c : Clock) → is_clock (clock_drifting c) (clock_quotient c) ≡ tr
 clock-is True = one-is
 clock-is (Drifting q) = refl
 
-quiet_is : (t : QuietTimer) → is_quiet (quiet_flag t) (quiet_at t) ≡ true
-quiet_is Q.None = refl
-quiet_is (Q.Until d) = refl
+quiet_is : (t : Option Reading) → is_quiet (quiet_flag t) (quiet_at t) ≡ true
+quiet_is None = refl
+quiet_is (Some d) = refl
 
 pub flat-is-record : FlatIsRecord
 unfolding is_record flat_of
@@ -227,10 +220,9 @@ row-there p h =
       promise_held_at = d.1 i;
     }
 
-rows-there : (rows : List PeerC) → all_of is_row rows ≡ true → map flat_row (map row_of rows) ≡ rows
-unfolding all_of
+rows-there : (rows : List PeerC) → list_all is_row rows ≡ true → map flat_row (map row_of rows) ≡ rows
 rows-there [] h = refl
-rows-there (p ∷ rows) h = λ i. row-there p (both_l (is_row p) (all_of is_row rows) h) i ∷ rows-there rows (both_r (is_row p) (all_of is_row rows) h) i
+rows-there (p ∷ rows) h = λ i. row-there p (both_l (is_row p) (list_all is_row rows) h) i ∷ rows-there rows (both_r (is_row p) (list_all is_row rows) h) i
 
 -- of the f64s only 1.0 equals 1.0
 one_only : (q : Float) → T (fits binary64 q) → eq q true_quotient ≡ true → q ≡ true_quotient
@@ -265,10 +257,10 @@ unfolding is_record manager_of flat_of
 back-and-there f fits h =
     let c = is_clock f.drifting f.quotient in
     let q = is_quiet f.quiet f.quiet_until in
-    let k = both_l (c && q) (all_of is_row f.peers) h in
+    let k = both_l (c && q) (list_all is_row f.peers) h in
     let clock = clock-there f.drifting f.quotient fits (both_l c q k) in
     let quiet = quiet-there f.quiet f.quiet_until (both_r c q k) in
-    let rows = rows-there f.peers (both_r (c && q) (all_of is_row f.peers) h) in
+    let rows = rows-there f.peers (both_r (c && q) (list_all is_row f.peers) h) in
     λ i.
     record {
       me = f.me;

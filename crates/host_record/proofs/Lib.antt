@@ -1,3 +1,3 @@
--- The proofs of the claims, and laws of loops over rows.
+-- The proofs of the claims, and of what an array's `map` gives.
 pub mod Rows
 pub mod Laws

@@ -1,17 +1,12 @@
 -- A manager's record as plain numbers. Definitions only.
-use Rattle.std.specs.Prelude.{ℕ, Bool, true, false, map, pos, Float}
+use Rattle.std.specs.Prelude.{ℕ, Bool, true, false, map, Float, Option, None, Some}
+use Rattle.timer.specs.declared.Reading.{Reading}
 use Rattle.drift.specs.declared.Clock.{Clock}
 use Rattle.drift.specs.declared.Clock.TheVariants.{True, Drifting}
 use Rattle.drift.specs.Drift.{quotient_at}
 use Rattle.timer.specs.declared.Timer.{Timer}
 use Rattle.timer.specs.declared.Timer.TheVariants.{Unarmed, Armed, Exploded}
-use Rattle.lease.specs.declared.Entry.{Entry}
-use Rattle.lease.specs.declared.Entry.TheVariants.{Absent, Present}
-use Rattle.lease.specs.declared.Grant.{Grant}
-use Rattle.lease.specs.declared.Grant.TheVariants as G
 use Rattle.lease.specs.declared.Peer.{Peer}
-use Rattle.lease.specs.declared.QuietTimer.{QuietTimer}
-use Rattle.lease.specs.declared.QuietTimer.TheVariants as Q
 use Rattle.lease.specs.declared.Manager.{Manager}
 use Rattle.host_record.specs.declared.PeerC.{PeerC}
 use Rattle.host_record.specs.declared.ManagerC.{ManagerC}
@@ -33,25 +28,25 @@ timer_at Unarmed = 0
 timer_at (Armed deadline) = deadline.0
 timer_at Exploded = 0
 
-abbrev pub entry_tag : Entry → ℕ
-entry_tag Absent = 0
-entry_tag (Present t) = timer_tag t
+abbrev pub entry_tag : Option Timer → ℕ
+entry_tag None = 0
+entry_tag (Some t) = timer_tag t
 
-abbrev pub entry_at : Entry → ℕ
-entry_at Absent = 0
-entry_at (Present t) = timer_at t
+abbrev pub entry_at : Option Timer → ℕ
+entry_at None = 0
+entry_at (Some t) = timer_at t
 
-abbrev pub grant_tag : Grant → ℕ
-grant_tag G.Absent = 0
-grant_tag (G.Present t revoking) = timer_tag t
+abbrev pub grant_tag : Option (Timer × Bool) → ℕ
+grant_tag None = 0
+grant_tag (Some (t, revoking)) = timer_tag t
 
-abbrev pub grant_at : Grant → ℕ
-grant_at G.Absent = 0
-grant_at (G.Present t revoking) = timer_at t
+abbrev pub grant_at : Option (Timer × Bool) → ℕ
+grant_at None = 0
+grant_at (Some (t, revoking)) = timer_at t
 
-abbrev pub grant_revoking : Grant → ℕ
-grant_revoking G.Absent = 0
-grant_revoking (G.Present t revoking) = flag revoking
+abbrev pub grant_revoking : Option (Timer × Bool) → ℕ
+grant_revoking None = 0
+grant_revoking (Some (t, revoking)) = flag revoking
 
 unfoldable pub flat_row : Peer → PeerC
 flat_row row =
@@ -82,13 +77,13 @@ abbrev pub clock_quotient : Clock → Float
 clock_quotient True = true_quotient
 clock_quotient (Drifting q) = q
 
-abbrev pub quiet_flag : QuietTimer → ℕ
-quiet_flag Q.None = 0
-quiet_flag (Q.Until deadline) = 1
+abbrev pub quiet_flag : Option Reading → ℕ
+quiet_flag None = 0
+quiet_flag (Some deadline) = 1
 
-abbrev pub quiet_at : QuietTimer → ℕ
-quiet_at Q.None = 0
-quiet_at (Q.Until deadline) = deadline.0
+abbrev pub quiet_at : Option Reading → ℕ
+quiet_at None = 0
+quiet_at (Some deadline) = deadline.0
 
 -- ---- the record
 

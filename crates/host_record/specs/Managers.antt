@@ -1,17 +1,13 @@
 -- What a flat record stands for, and which flat records are some manager's. Definitions only.
-use Rattle.std.specs.Prelude.{ℕ, Bool, true, false, cond, ◌&&◌, List, [], ◌∷◌, map, eqb, ltb, Float}
+use Rattle.std.specs.Prelude.{ℕ, Bool, true, false, cond, ◌&&◌, map, eqb, ltb, Float, Option, None, Some}
+use Rattle.std.specs.List.{list_all}
 use Rattle.std.specs.Float.Ieee.{eq}
+use Rattle.timer.specs.declared.Reading.{Reading}
 use Rattle.drift.specs.declared.Clock.{Clock}
 use Rattle.drift.specs.declared.Clock.TheVariants.{True, Drifting}
 use Rattle.timer.specs.declared.Timer.{Timer}
 use Rattle.timer.specs.declared.Timer.TheVariants.{Unarmed, Armed, Exploded}
-use Rattle.lease.specs.declared.Entry.{Entry}
-use Rattle.lease.specs.declared.Entry.TheVariants.{Absent, Present}
-use Rattle.lease.specs.declared.Grant.{Grant}
-use Rattle.lease.specs.declared.Grant.TheVariants as G
 use Rattle.lease.specs.declared.Peer.{Peer}
-use Rattle.lease.specs.declared.QuietTimer.{QuietTimer}
-use Rattle.lease.specs.declared.QuietTimer.TheVariants as Q
 use Rattle.lease.specs.declared.Manager.{Manager}
 use Rattle.host_record.specs.declared.PeerC.{PeerC}
 use Rattle.host_record.specs.declared.ManagerC.{ManagerC}
@@ -22,11 +18,11 @@ use Rattle.host_record.specs.Flat.{true_quotient}
 abbrev pub timer_of : ℕ → ℕ → Timer
 timer_of tag at = cond (eqb tag 1) Unarmed (cond (eqb tag 2) (Armed (record { 0 = at })) Exploded)
 
-abbrev pub entry_of : ℕ → ℕ → Entry
-entry_of tag at = cond (eqb tag 0) Absent (Present (timer_of tag at))
+abbrev pub entry_of : ℕ → ℕ → Option Timer
+entry_of tag at = cond (eqb tag 0) None (Some (timer_of tag at))
 
-abbrev pub grant_of : ℕ → ℕ → ℕ → Grant
-grant_of tag at revoking = cond (eqb tag 0) G.Absent (G.Present (timer_of tag at) (eqb revoking 1))
+abbrev pub grant_of : ℕ → ℕ → ℕ → Option (Timer × Bool)
+grant_of tag at revoking = cond (eqb tag 0) None (Some (timer_of tag at, eqb revoking 1))
 
 unfoldable pub row_of : PeerC → Peer
 row_of p =
@@ -41,8 +37,8 @@ row_of p =
 abbrev pub clock_of : ℕ → Float → Clock
 clock_of drifting q = cond (eqb drifting 0) True (Drifting q)
 
-abbrev pub quiet_timer_of : ℕ → ℕ → QuietTimer
-quiet_timer_of quiet at = cond (eqb quiet 0) Q.None (Q.Until (record { 0 = at }))
+abbrev pub quiet_timer_of : ℕ → ℕ → Option Reading
+quiet_timer_of quiet at = cond (eqb quiet 0) None (Some (record { 0 = at }))
 
 unfoldable pub manager_of : ManagerC → Manager
 manager_of f =
@@ -80,10 +76,6 @@ is_row p =
     && (is_entry p.guard_held p.guard_held_at && is_entry p.promise_held p.promise_held_at))
     && is_flag p.refresh_mark
 
-unfoldable pub all_of : {A : Type 0} → (A → Bool) → List A → Bool
-all_of p [] = true
-all_of p (x ∷ t) = p x && all_of p t
-
 abbrev pub is_clock : ℕ → Float → Bool
 is_clock drifting q = cond (eqb drifting 0) (eq q true_quotient) (is_flag drifting)
 
@@ -91,4 +83,4 @@ abbrev pub is_quiet : ℕ → ℕ → Bool
 is_quiet quiet at = cond (eqb quiet 0) (eqb at 0) (is_flag quiet)
 
 unfoldable pub is_record : ManagerC → Bool
-is_record f = (is_clock f.drifting f.quotient && is_quiet f.quiet f.quiet_until) && all_of is_row f.peers
+is_record f = (is_clock f.drifting f.quotient && is_quiet f.quiet f.quiet_until) && list_all is_row f.peers

@@ -35,7 +35,7 @@ notice_c f c =
 unfoldable pub advance_c : ManagerC → CallC → CalledC
 advance_c f c =
     let r = advance_of (manager_of f) (record { 0 = c.number }) in
-    left f (advance_answer r.advanced) r.manager
+    left f (advance_answer r.outcome) r.manager
 
 unfoldable pub quiet_c : ManagerC → CalledC
 quiet_c f =

@@ -1,42 +1,45 @@
 -- What holds of every call on a record: it is refused, or the record and its arguments passed and it is done. Assumes nothing.
+use Rattle.std.specs.Prelude.{Result, Ok, Err}
 use mathlib.Core.Path.{◌≡◌, refl}
 use mathlib.Core.Bool.{Bool, true, false, cond}
 use Prim.Native.Nat.{ℕ, ◌<◌}
 use native.Mathlib.Omega.{arith}
 use lib.Dec.{eqb, leb}
-use borrow.Author.Tests.{eqb-true, leb-false}
+use borrow.Author.Tests.{leb-false}
+use Rattle.lease.specs.declared.Answered.{Answered}
 use Rattle.lease.specs.declared.Manager.{Manager}
-use Rattle.lease.specs.declared.PlainOutcome.TheVariants as PO
-use Rattle.lease.specs.declared.PlainAnswer.{PlainAnswer}
+use Rattle.lease.specs.declared.Refusal.{Refusal}
+use Rattle.lease.specs.declared.Refusal.TheVariants.{PeerNotBelowPopulation, PeerIsOwn, InvalidRecord}
 use Rattle.lease.specs.RecordCheck.{record_valid}
-use Rattle.lease.specs.Refusals.{peer_refusal, judged}
+use Rattle.lease.specs.Refusals.{peer_refusal, unless, judged}
 
-pub judged-by : {A : Type 0} (P : A → Type 0) (valid : Bool) (code : ℕ) (refused : ℕ → A) (done : A) → ((k : ℕ) → P (refused k)) → (code ≡ 0 → P done)
-    → P (judged valid code refused done)
-judged-by P valid code refused done r d = go valid (eqb code 0) refl
+pub judged-by : {A : Type 0} (P : A → Type 0) (valid : Bool) (check : Result (Unit {0}) Refusal) (refused : Refusal → A) (done : A) → ((k : Refusal) → P (refused k))
+    → (check ≡ Ok tt → P done)
+    → P (judged valid check refused done)
+judged-by P valid check refused done r d = go valid check refl
   where
-    go : (b z : Bool) → eqb code 0 ≡ z → P (cond b (cond z done (refused code)) (refused 15))
-    go true true e = d (eqb-true code 0 e)
-    go true false e = r code
-    go false z e = r 15
+    go : (b : Bool) (z : Result (Unit {0}) Refusal) → check ≡ z → P (cond b (unless z refused done) (refused InvalidRecord))
+    go true (Ok x) e = d e
+    go true (Err k) e = r k
+    go false z e = r InvalidRecord
 
 -- a quiet start and a drift setting: 15 alone refuses them
-abbrev pub plain_of : Manager → Manager → PlainAnswer
-plain_of m next = judged (record_valid m) 0 (λ k. record { outcome = PO.Refused k; manager = m }) (record { outcome = PO.Done; manager = next })
+abbrev pub plain_of : Manager → Manager → Answered (Unit {0})
+plain_of m next = judged (record_valid m) (Ok tt) (λ k. record { outcome = Err k; manager = m }) (record { outcome = Ok tt; manager = next })
 
 -- a peer that neither 7 nor 8 turns down is below the population
-pub peer-below : (n me id : ℕ) → peer_refusal n me id ≡ 0 → id < n
+pub peer-below : (n me id : ℕ) → peer_refusal n me id ≡ Ok tt → id < n
 peer-below n me id e = go (leb n id) refl e
   where
-    go : (x : Bool) → leb n id ≡ x → ◌≡◌ {A = ℕ} (cond x 7 (cond (eqb id me) 8 0)) 0 → id < n
-    go true q h = absurd (omega arith)
+    go : (x : Bool) → leb n id ≡ x → ◌≡◌ {A = Result (Unit {0}) Refusal} (cond x (Err PeerNotBelowPopulation) (cond (eqb id me) (Err PeerIsOwn) (Ok tt))) (Ok tt) → id < n
+    go true q h = absurd (let w : ◌≡◌ {A = ℕ} 0 1 = cc in omega arith)
     go false q h = leb-false n id q
 
 -- and it is not the own id
-pub peer-other : (n me id : ℕ) → peer_refusal n me id ≡ 0 → eqb id me ≡ false
+pub peer-other : (n me id : ℕ) → peer_refusal n me id ≡ Ok tt → eqb id me ≡ false
 peer-other n me id e = go (leb n id) (eqb id me) e
   where
-    go : (x y : Bool) → ◌≡◌ {A = ℕ} (cond x 7 (cond y 8 0)) 0 → y ≡ false
-    go true y h = absurd (omega arith)
-    go false true h = absurd (omega arith)
+    go : (x y : Bool) → ◌≡◌ {A = Result (Unit {0}) Refusal} (cond x (Err PeerNotBelowPopulation) (cond y (Err PeerIsOwn) (Ok tt))) (Ok tt) → y ≡ false
+    go true y h = absurd (let w : ◌≡◌ {A = ℕ} 0 1 = cc in omega arith)
+    go false true h = absurd (let w : ◌≡◌ {A = ℕ} 0 1 = cc in omega arith)
     go false false h = refl

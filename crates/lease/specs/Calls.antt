@@ -1,38 +1,29 @@
 -- Document 01, "Outer calls", on a record that is not refused. Definitions only.
-use Rattle.std.specs.Prelude.{ℕ, ◌+◌, ◌*◌, ◌%◌, Bool, true, false, cond, List, leb, ltb}
+use Rattle.std.specs.Prelude.{ℕ, ◌+◌, ◌*◌, ◌%◌, Bool, true, false, cond, List, leb, ltb, Option, None, Some, Ok, ℤ, Float, Result, Err, []}
+use Rattle.lease.specs.declared.Answered.{Answered}
+use Rattle.lease.specs.declared.Line.{Line}
+use Rattle.timer.specs.declared.Timer.{Timer}
 use Rattle.bitmap.specs.declared.Bitmap.{Bitmap}
 use Rattle.drift.specs.declared.Clock.{Clock}
 use Rattle.drift.specs.declared.Clock.TheVariants as K
 use Rattle.drift.specs.Drift.{quotient_of}
 use Rattle.timer.specs.declared.Reading.{Reading}
 use Rattle.timer.specs.Timers.{drifted, ms_left}
-use Rattle.lease.specs.declared.Entry.{Entry}
-use Rattle.lease.specs.declared.Entry.TheVariants.{Absent, Present}
 use Rattle.lease.specs.declared.Peer.{Peer}
-use Rattle.lease.specs.declared.PeerSet.{PeerSet}
-use Rattle.lease.specs.declared.QuietTimer.{QuietTimer}
-use Rattle.lease.specs.declared.QuietTimer.TheVariants as Q
-use Rattle.lease.specs.declared.QuietEnd.{QuietEnd}
-use Rattle.lease.specs.declared.QuietEnd.TheVariants as QE
-use Rattle.lease.specs.declared.DriftSetting.{DriftSetting}
-use Rattle.lease.specs.declared.DriftSetting.TheVariants as D
-use Rattle.lease.specs.declared.TimeLeft.{TimeLeft}
-use Rattle.lease.specs.declared.TimeLeft.TheVariants as T
 use Rattle.lease.specs.declared.LeaseAction.TheVariants.{GrantTimeout}
 use Rattle.lease.specs.declared.Manager.{Manager}
-use Rattle.lease.specs.declared.Pass.{Pass}
-use Rattle.lease.specs.declared.Pass.TheVariants as P
+use Rattle.lease.specs.Pass.{Pass}
+use Rattle.lease.specs.Pass as P
 use Rattle.lease.specs.declared.FiredTimer.{FiredTimer}
-use Rattle.lease.specs.declared.AdvanceOutcome.TheVariants as AO
-use Rattle.lease.specs.declared.AdvanceAnswer.{AdvanceAnswer}
-use Rattle.lease.specs.declared.SetOutcome.TheVariants as SO
-use Rattle.lease.specs.declared.RefreshAnswer.{RefreshAnswer}
+use Rattle.lease.specs.declared.FiredTimers.{FiredTimers}
+use Rattle.lease.specs.declared.Refusal.{Refusal}
+use Rattle.lease.specs.declared.Advanced.{Advanced}
 use Rattle.lease.specs.Rows.{row_at}
 use Rattle.lease.specs.Fired.{fired_of, fired_timers}
 use Rattle.lease.specs.Notices.{line, pass_on, with_peers}
 
 -- The record with another reading, clock and quiet timer, and other rows.
-abbrev pub with_time : Manager → Reading → Clock → QuietTimer → List Peer → Manager
+abbrev pub with_time : Manager → Reading → Clock → Option Reading → List Peer → Manager
 with_time m now clock quiet rows =
     record {
       me = m.me;
@@ -48,27 +39,27 @@ with_time m now clock quiet rows =
 -- ---- quiet time
 
 -- The quiet timer fires as other timers do, and quiet time is then over.
-abbrev pub quiet_fires : Reading → QuietTimer → Bool
-quiet_fires now Q.None = false
-quiet_fires now (Q.Until d) = leb d.0 now.0
+abbrev pub quiet_fires : Reading → Option Reading → Bool
+quiet_fires now None = false
+quiet_fires now (Some d) = leb d.0 now.0
 
-abbrev pub quiet_at : Reading → QuietTimer → QuietTimer
-quiet_at now Q.None = Q.None
-quiet_at now (Q.Until d) = cond (leb d.0 now.0) Q.None (Q.Until d)
+abbrev pub quiet_at : Reading → Option Reading → Option Reading
+quiet_at now None = None
+quiet_at now (Some d) = cond (leb d.0 now.0) None (Some d)
 
-abbrev pub is_quiet : Reading → QuietTimer → Bool
-is_quiet now Q.None = false
-is_quiet now (Q.Until d) = ltb now.0 d.0
+abbrev pub is_quiet : Reading → Option Reading → Bool
+is_quiet now None = false
+is_quiet now (Some d) = ltb now.0 d.0
 
 -- When it fires, advance also gives the quiet-end line (0, GrantTimeout of (own id + 1) mod population) once.
-abbrev pub quiet_end : Bool → ℕ → ℕ → QuietEnd
-quiet_end true own n = QE.Given (line (record { 0 = 0 }) (GrantTimeout ((own + 1) % n)))
-quiet_end false own n = QE.None
+abbrev pub quiet_end : Bool → ℕ → ℕ → Option Line
+quiet_end true own n = Some (line (record { 0 = 0 }) (GrantTimeout ((own + 1) % n)))
+quiet_end false own n = None
 
 -- `assume_unknown_grants` arms the quiet timer for the drifted 2T, replacing an earlier one.
 unfoldable pub assume_unknown_grants : Manager → Manager
 assume_unknown_grants m =
-    with_time m m.now m.clock (Q.Until (record { 0 = m.now.0 + drifted m.clock (2 * m.expire_timeout) })) m.peers
+    with_time m m.now m.clock (Some (record { 0 = m.now.0 + drifted m.clock (2 * m.expire_timeout) })) m.peers
 
 -- ---- advance
 
@@ -78,35 +69,46 @@ fired_by m to = fired_of m.peers (pass_on m (P.Advance to)).first (pass_on m (P.
 
 -- Sets the clock; each armed timer with deadline at or below it explodes once. It answers the set of peers whose sent timers and the
 -- set whose held timers fired, and these timers in order.
-unfoldable pub advance_to : Manager → Reading → AdvanceAnswer
+unfoldable pub advance_to : Manager → Reading → Answered Advanced
 advance_to m to =
     record {
-      advanced =
-          record {
-            outcome =
-                AO.Fired (pass_on m (P.Advance to)).first (pass_on m (P.Advance to)).second
-                (quiet_end (quiet_fires to m.quiet_timer) m.me m.population);
+      outcome =
+          Ok
+          (record {
+            sent = (pass_on m (P.Advance to)).first;
+            held = (pass_on m (P.Advance to)).second;
+            quiet_end = quiet_end (quiet_fires to m.quiet_timer) m.me m.population;
             fired = fired_timers (fired_by m to);
-          };
+          });
       manager = with_time m to m.clock (quiet_at to m.quiet_timer) (pass_on m (P.Advance to)).peers;
     }
+
+-- The sets that it answers, with the quiet-end line.
+abbrev pub sets_of : Result Advanced Refusal → Result (Bitmap × Bitmap × Option Line) Refusal
+sets_of (Ok a) = Ok (a.sent, a.held, a.quiet_end)
+sets_of (Err k) = Err k
+
+-- The timers that it lists: none where it is refused.
+abbrev pub fired_in : Result Advanced Refusal → FiredTimers
+fired_in (Ok a) = a.fired
+fired_in (Err k) = fired_timers []
 
 -- ---- refresh and drift
 
 -- `attempt_refresh`: T is drifted once for all peers.
-abbrev pub refresh_pass : Manager → PeerSet → Pass
+abbrev pub refresh_pass : Manager → Option Bitmap → Pass
 refresh_pass m set = P.Refresh set m.now (drifted m.clock m.expire_timeout)
 
-unfoldable pub attempt_refresh : Manager → PeerSet → RefreshAnswer
+unfoldable pub attempt_refresh : Manager → Option Bitmap → Answered Bitmap
 attempt_refresh m set =
-    record { outcome = SO.Ids (pass_on m (refresh_pass m set)).first; manager = with_peers m (pass_on m (refresh_pass m set)).peers }
+    record { outcome = Ok (pass_on m (refresh_pass m set)).first; manager = with_peers m (pass_on m (refresh_pass m set)).peers }
 
 -- Drift setting: true or any i8.
-abbrev pub clock_of : DriftSetting → Clock
-clock_of D.True = K.True
-clock_of (D.Drifting d) = K.Drifting (quotient_of d)
+abbrev pub clock_of : Option ℤ → Clock
+clock_of None = K.True
+clock_of (Some d) = K.Drifting (quotient_of d)
 
-unfoldable pub set_drift : Manager → DriftSetting → Manager
+unfoldable pub set_drift : Manager → Option ℤ → Manager
 set_drift m setting = with_time m m.now (clock_of setting) m.quiet_timer m.peers
 
 -- ---- questions
@@ -124,9 +126,9 @@ unfoldable pub lease_cnt : Manager → ℕ
 lease_cnt m = 1 + (pass_on m (P.Leased m.now)).count
 
 -- Time left: for a peer, none without a held promise; otherwise deadline minus now in whole milliseconds, rounded up.
-abbrev pub left_on : Reading → Entry → TimeLeft
-left_on now Absent = T.None
-left_on now (Present t) = T.Ms (ms_left now t)
+abbrev pub left_on : Reading → Option Timer → Option ℕ
+left_on now None = None
+left_on now (Some t) = Some (ms_left now t)
 
-abbrev pub time_left : Manager → ℕ → TimeLeft
+abbrev pub time_left : Manager → ℕ → Option ℕ
 time_left m id = left_on m.now (row_at m.peers id).promise_held

@@ -1,11 +1,8 @@
 -- Timers that fire, in order, on one record: as one list with one claim. Statements only; proved in proofs/Fired.antt.
-use Rattle.std.specs.Prelude.{ℕ, ◌≡◌, true, false, [], ◌∷◌, replicate}
+use Rattle.std.specs.Prelude.{ℕ, ◌≡◌, true, false, [], ◌∷◌, replicate, None, Some}
 use Rattle.drift.specs.declared.Clock.TheVariants as K
 use Rattle.timer.specs.declared.Timer.{Timer}
 use Rattle.timer.specs.declared.Timer.TheVariants.{Unarmed, Armed, Exploded}
-use Rattle.lease.specs.declared.Entry.TheVariants.{Absent, Present}
-use Rattle.lease.specs.declared.Grant.TheVariants as G
-use Rattle.lease.specs.declared.QuietTimer.TheVariants as Q
 use Rattle.lease.specs.declared.Peer.{Peer}
 use Rattle.lease.specs.declared.Manager.{Manager}
 use Rattle.lease.specs.declared.FiredTimer.{FiredTimer}
@@ -19,11 +16,11 @@ armed ns = Armed (record { 0 = ns })
 -- A promise sent and a promise held; a guard sent and a guard held.
 abbrev promises : Timer → Timer → Peer
 promises sent held =
-    record { guard_sent = Absent; promise_sent = G.Present sent false; guard_held = Absent; promise_held = Present held; refresh_mark = false }
+    record { guard_sent = None; promise_sent = Some (sent, false); guard_held = None; promise_held = Some held; refresh_mark = false }
 
 abbrev guards : Timer → Timer → Peer
 guards sent held =
-    record { guard_sent = Present sent; promise_sent = G.Absent; guard_held = Present held; promise_held = Absent; refresh_mark = false }
+    record { guard_sent = Some sent; promise_sent = None; guard_held = Some held; promise_held = None; refresh_mark = false }
 
 -- At the reading 5, with quiet time to 8: the own id is 2; a sent promise of 1 runs longest; all other timers but the exploded ones end
 -- at 10 or 20.
@@ -36,7 +33,7 @@ before =
       now = record { 0 = 5 };
       active_num = record { 0 = 1 };
       clock = K.True;
-      quiet_timer = Q.Until (record { 0 = 8 });
+      quiet_timer = Some (record { 0 = 8 });
       peers =
           promises (armed 20) (armed 10) ∷ promises (armed 30) (armed 10) ∷ empty_row ∷ guards Unarmed (armed 20) ∷ promises (armed 10) (armed 20)
           ∷ promises Exploded Exploded ∷ replicate 58 empty_row;

@@ -1,14 +1,9 @@
 -- Document 01, "Steps for one notice": the notices about one peer, each a rule on that peer's row. `t` is a timer that has just been
 -- kicked off. Definitions only.
-use Rattle.std.specs.Prelude.{ℕ, ◌*◌, Bool, true, false, cond, ◌||◌}
+use Rattle.std.specs.Prelude.{ℕ, ◌*◌, Bool, true, false, cond, ◌||◌, Option, None, Some}
+use Rattle.lease.specs.declared.Bar.{Bar}
 use Rattle.timer.specs.declared.Timer.{Timer}
 use Rattle.timer.specs.Timers.{is_exploded, kicked_off}
-use Rattle.lease.specs.declared.AcceptBar.{AcceptBar}
-use Rattle.lease.specs.declared.AcceptBar.TheVariants as B
-use Rattle.lease.specs.declared.Entry.{Entry}
-use Rattle.lease.specs.declared.Entry.TheVariants.{Absent, Present}
-use Rattle.lease.specs.declared.Grant.{Grant}
-use Rattle.lease.specs.declared.Grant.TheVariants as G
 use Rattle.lease.specs.declared.Peer.{Peer}
 use Rattle.lease.specs.declared.LeaseMsg.{LeaseMsg}
 use Rattle.lease.specs.declared.LeaseMsg.TheVariants as M
@@ -36,69 +31,69 @@ two_actions row a b = record { peer = row; actions = AS.Two a b }
 
 -- Guard: nothing if a promise from that peer is held. Otherwise a new held guard for T replaces any old one; GuardAcceptBar if a bar
 -- came; then GuardReply.
-abbrev pub guard_replies : AcceptBar → ℕ → Peer → Handled
-guard_replies B.None id row = one_action row (A.SendLeaseMsg id M.GuardReply)
-guard_replies (B.Some bar) id row = two_actions row (A.GuardAcceptBar id bar) (A.SendLeaseMsg id M.GuardReply)
+abbrev pub guard_replies : Option Bar → ℕ → Peer → Handled
+guard_replies None id row = one_action row (A.SendLeaseMsg id M.GuardReply)
+guard_replies (Some bar) id row = two_actions row (A.GuardAcceptBar id bar) (A.SendLeaseMsg id M.GuardReply)
 
-abbrev pub guard_unless_held : Entry → ℕ → Timer → AcceptBar → Peer → Handled
-guard_unless_held (Present u) id t bar row = no_action row
-guard_unless_held Absent id t bar row = guard_replies bar id (with_held row (Present t) Absent)
+abbrev pub guard_unless_held : Option Timer → ℕ → Timer → Option Bar → Peer → Handled
+guard_unless_held (Some u) id t bar row = no_action row
+guard_unless_held None id t bar row = guard_replies bar id (with_held row (Some t) None)
 
-abbrev pub handle_msg_guard : ℕ → Timer → AcceptBar → Peer → Handled
+abbrev pub handle_msg_guard : ℕ → Timer → Option Bar → Peer → Handled
 handle_msg_guard id t bar row = guard_unless_held row.promise_held id t bar row
 
 -- Promise: a held guard, even an exploded one, becomes a held promise for T; a held promise is kicked off for T; both answer
 -- PromiseReply{held:true}. In neither table: held false.
-abbrev pub promise_on : Entry → Entry → ℕ → Timer → Peer → Handled
-promise_on (Present u) promise id t row = one_action (with_held row Absent (Present t)) (A.SendLeaseMsg id (M.PromiseReply true))
-promise_on Absent (Present u) id t row = one_action (with_held row Absent (Present t)) (A.SendLeaseMsg id (M.PromiseReply true))
-promise_on Absent Absent id t row = one_action row (A.SendLeaseMsg id (M.PromiseReply false))
+abbrev pub promise_on : Option Timer → Option Timer → ℕ → Timer → Peer → Handled
+promise_on (Some u) promise id t row = one_action (with_held row None (Some t)) (A.SendLeaseMsg id (M.PromiseReply true))
+promise_on None (Some u) id t row = one_action (with_held row None (Some t)) (A.SendLeaseMsg id (M.PromiseReply true))
+promise_on None None id t row = one_action row (A.SendLeaseMsg id (M.PromiseReply false))
 
 abbrev pub handle_msg_promise : ℕ → Timer → Peer → Handled
 handle_msg_promise id t row = promise_on row.guard_held row.promise_held id t row
 
 -- Revoke: guard and promise held are dropped; RevokeReply says whether a promise was.
 abbrev pub handle_msg_revoke : ℕ → Peer → Handled
-handle_msg_revoke id row = one_action (with_held row Absent Absent) (A.SendLeaseMsg id (M.RevokeReply (present row.promise_held)))
+handle_msg_revoke id row = one_action (with_held row None None) (A.SendLeaseMsg id (M.RevokeReply (present row.promise_held)))
 
 -- LeaseTimeout: nothing if the held side has a timer for the peer that is not exploded. Otherwise drop it and report, even if nothing
 -- was there.
 abbrev pub handle_lease_timeout : ℕ → Peer → Handled
 handle_lease_timeout id row =
     cond (unexploded row.guard_held || unexploded row.promise_held) (no_action row)
-    (one_action (with_held row Absent Absent) (A.LeaseTimeout id))
+    (one_action (with_held row None None) (A.LeaseTimeout id))
 
 -- ---- the sent side
 
 -- GuardReply: nothing without a sent guard. Otherwise it becomes a sent promise, armed for the drifted 2T; Promise is sent.
-abbrev pub guard_reply_on : Entry → ℕ → Timer → Peer → Handled
-guard_reply_on Absent id t row = no_action row
-guard_reply_on (Present u) id t row = one_action (with_sent row Absent (G.Present t false) row.refresh_mark) (A.SendLeaseMsg id M.Promise)
+abbrev pub guard_reply_on : Option Timer → ℕ → Timer → Peer → Handled
+guard_reply_on None id t row = no_action row
+guard_reply_on (Some u) id t row = one_action (with_sent row None (Some (t, false)) row.refresh_mark) (A.SendLeaseMsg id M.Promise)
 
 abbrev pub handle_msg_guard_reply : ℕ → Timer → Peer → Handled
 handle_msg_guard_reply id t row = guard_reply_on row.guard_sent id t row
 
 -- PromiseReply: nothing without a sent promise. Held false: removed, GrantRemoved{held:false}. Held true: if not exploded and not
 -- revoking, kicked off for T and NextRefresh, which marks its peer at once.
-abbrev pub promise_reply_on : Grant → ℕ → Timer → Bool → Peer → Handled
-promise_reply_on G.Absent id t held row = no_action row
-promise_reply_on (G.Present u revoking) id t held row =
+abbrev pub promise_reply_on : Option (Timer × Bool) → ℕ → Timer → Bool → Peer → Handled
+promise_reply_on None id t held row = no_action row
+promise_reply_on (Some (u, revoking)) id t held row =
     cond held
-    (cond (revoking || is_exploded u) (no_action row) (one_action (with_sent row row.guard_sent (G.Present t false) true) (A.NextRefresh id)))
-    (one_action (with_sent row row.guard_sent G.Absent row.refresh_mark) (A.GrantRemoved id false))
+    (cond (revoking || is_exploded u) (no_action row) (one_action (with_sent row row.guard_sent (Some (t, false)) true) (A.NextRefresh id)))
+    (one_action (with_sent row row.guard_sent None row.refresh_mark) (A.GrantRemoved id false))
 
 abbrev pub handle_msg_promise_reply : ℕ → Timer → Bool → Peer → Handled
 handle_msg_promise_reply id t held row = promise_reply_on row.promise_sent id t held row
 
 -- RevokeReply: guard and promise sent are dropped; GrantRemoved with the message's held, always.
 abbrev pub handle_msg_revoke_reply : ℕ → Bool → Peer → Handled
-handle_msg_revoke_reply id held row = one_action (with_sent row Absent G.Absent row.refresh_mark) (A.GrantRemoved id held)
+handle_msg_revoke_reply id held row = one_action (with_sent row None None row.refresh_mark) (A.GrantRemoved id held)
 
 -- GrantTimeout: as LeaseTimeout, on the sent side.
 abbrev pub handle_grant_timeout : ℕ → Peer → Handled
 handle_grant_timeout id row =
     cond (unexploded row.guard_sent || unexploded_grant row.promise_sent) (no_action row)
-    (one_action (with_sent row Absent G.Absent row.refresh_mark) (A.GrantTimeout id))
+    (one_action (with_sent row None None row.refresh_mark) (A.GrantTimeout id))
 
 -- ---- any notice about one peer
 

@@ -1,22 +1,19 @@
 -- What is claimed of time left. Each claim is proved in proofs/Left.antt under the same name in small letters. Statements only.
-use Rattle.std.specs.Prelude.{ℕ, ◌≡◌, Bool, true, false, ltb}
+use Rattle.std.specs.Prelude.{ℕ, ◌≡◌, Bool, true, false, ltb, Option, None, Some, Ok}
 use Rattle.bitmap.specs.Bitmaps.{is_one}
-use Rattle.lease.specs.declared.Entry.{Entry}
-use Rattle.lease.specs.declared.TimeLeft.{TimeLeft}
-use Rattle.lease.specs.declared.TimeLeft.TheVariants as T
-use Rattle.lease.specs.declared.TimeLeftOutcome.TheVariants as TO
+use Rattle.timer.specs.declared.Timer.{Timer}
 use Rattle.lease.specs.declared.Manager.{Manager}
 use Rattle.lease.specs.Rows.{row_at, present, active_entry}
 use Rattle.lease.specs.Calls.{lease_set, time_left}
 use Rattle.lease.specs.Rules.{time_left_of}
 
 -- The promise held from a peer, or none.
-abbrev pub promise_of : Manager → ℕ → Entry
+abbrev pub promise_of : Manager → ℕ → Option Timer
 promise_of m id = (row_at m.peers id).promise_held
 
 -- None exactly without a held promise.
 abbrev pub NoneLeft : Type 0
-NoneLeft = (m : Manager) (id : ℕ) → (time_left m id ≡ T.None → present (promise_of m id) ≡ false) × (present (promise_of m id) ≡ false → time_left m id ≡ T.None)
+NoneLeft = (m : Manager) (id : ℕ) → (time_left m id ≡ None → present (promise_of m id) ≡ false) × (present (promise_of m id) ≡ false → time_left m id ≡ None)
 
 -- There is one, and it has run out: its timer is not active.
 abbrev pub RunOut : Manager → ℕ → Type 0
@@ -24,13 +21,13 @@ RunOut m id = (present (promise_of m id) ≡ true) × (active_entry m.now (promi
 
 -- 0 exactly then.
 abbrev pub ZeroLeft : Type 0
-ZeroLeft = (m : Manager) (id : ℕ) → (time_left m id ≡ T.Ms 0 → RunOut m id) × (RunOut m id → time_left m id ≡ T.Ms 0)
+ZeroLeft = (m : Manager) (id : ℕ) → (time_left m id ≡ Some 0 → RunOut m id) × (RunOut m id → time_left m id ≡ Some 0)
 
 -- Whether some ms are left.
-abbrev pub some_left : TimeLeft → Bool
-some_left T.None = false
-some_left (T.Ms ms) = ltb 0 ms
+abbrev pub some_left : Option ℕ → Bool
+some_left None = false
+some_left (Some ms) = ltb 0 ms
 
 -- Wherever the question is answered, the peer is in the lease set exactly if some ms are left.
 abbrev pub LeftLeased : Type 0
-LeftLeased = (m : Manager) (id : ℕ) (left : TimeLeft) → time_left_of m id ≡ TO.Left left → is_one (lease_set m) id ≡ some_left left
+LeftLeased = (m : Manager) (id : ℕ) (left : Option ℕ) → time_left_of m id ≡ Ok left → is_one (lease_set m) id ≡ some_left left

@@ -1,6 +1,7 @@
 pub mod Tables
 pub mod Rows
 pub mod Handlers
+pub mod Pass
 pub mod Passes
 pub mod Notices
 pub mod Fired

@@ -1,10 +1,9 @@
 -- Document 01, "Steps for one notice", on the record: the Rust's `run` with `handle_notice`. Definitions only.
-use Rattle.std.specs.Prelude.{ℕ, Bool, true, false, cond, List, eqb, ltb, set}
+use Rattle.std.specs.Prelude.{ℕ, Bool, true, false, cond, List, eqb, ltb, set, Option}
+use Rattle.lease.specs.declared.Bar.{Bar}
 use Rattle.bitmap.specs.declared.Bitmap.{Bitmap}
 use Rattle.bitmap.specs.Bitmaps.{number}
 use Rattle.lease.specs.declared.Peer.{Peer}
-use Rattle.lease.specs.declared.PeerSet.{PeerSet}
-use Rattle.lease.specs.declared.AcceptBar.{AcceptBar}
 use Rattle.lease.specs.declared.LeaseNum.{LeaseNum}
 use Rattle.lease.specs.declared.LeaseMsg.{LeaseMsg}
 use Rattle.lease.specs.declared.LeaseMsg.TheVariants as M
@@ -22,8 +21,8 @@ use Rattle.lease.specs.declared.Lines.TheVariants as L
 use Rattle.lease.specs.declared.Term.{Term}
 use Rattle.lease.specs.declared.Handled.{Handled}
 use Rattle.lease.specs.declared.Manager.{Manager}
-use Rattle.lease.specs.declared.Pass.{Pass}
-use Rattle.lease.specs.declared.Pass.TheVariants as P
+use Rattle.lease.specs.Pass.{Pass}
+use Rattle.lease.specs.Pass as P
 use Rattle.lease.specs.declared.Passed.{Passed}
 use Rattle.lease.specs.declared.Acted.{Acted}
 use Rattle.lease.specs.declared.Accepted.{Accepted}
@@ -68,7 +67,7 @@ on_peer m id notice =
     record { actions = (handled_at m id notice).actions; manager = with_peers m (set m.peers id (handled_at m id notice).peer) }
 
 -- NewGrants: one Guard broadcast to the peers that got a fresh guard, even when there are none.
-unfoldable pub handle_new_grants : Manager → PeerSet → AcceptBar → Acted
+unfoldable pub handle_new_grants : Manager → Option Bitmap → Option Bar → Acted
 handle_new_grants m to bar =
     record {
       actions = AS.One (A.BcastLeaseMsgs (pass_on m (P.NewGrants to)).first (M.Guard bar));
@@ -79,7 +78,7 @@ handle_new_grants m to bar =
 abbrev pub revoke_to : Bitmap → Actions
 revoke_to set = cond (eqb (number set) 0) AS.None (AS.One (A.BcastLeaseMsgs set M.Revoke))
 
-unfoldable pub handle_do_revoke : Manager → PeerSet → Acted
+unfoldable pub handle_do_revoke : Manager → Option Bitmap → Acted
 handle_do_revoke m to =
     record { actions = revoke_to (pass_on m (P.DoRevoke to)).first; manager = with_peers m (pass_on m (P.DoRevoke to)).peers }
 

@@ -1,28 +1,24 @@
 -- The rules about many peers, each a rule on one row, and the one pass over the ids that applies any of them. Definitions only.
-use Rattle.std.specs.Prelude.{ℕ, Bool, true, false, cond, not, ◌&&◌, ◌||◌, List, eqb}
+use Rattle.std.specs.Prelude.{ℕ, Bool, true, false, cond, not, ◌&&◌, ◌||◌, List, eqb, Option, None, Some}
 use Rattle.bitmap.specs.Sets.{count_where}
 use Rattle.bitmap.specs.Bitmaps.{bitmap_where, is_one}
+use Rattle.timer.specs.declared.Timer.{Timer}
+use Rattle.bitmap.specs.declared.Bitmap.{Bitmap}
 use Rattle.timer.specs.declared.Reading.{Reading}
 use Rattle.timer.specs.declared.Timer.TheVariants.{Unarmed}
 use Rattle.timer.specs.Timers.{is_exploded, expired_at, extended_by}
-use Rattle.lease.specs.declared.PeerSet.{PeerSet}
-use Rattle.lease.specs.declared.PeerSet.TheVariants.{All, Of}
-use Rattle.lease.specs.declared.Entry.{Entry}
-use Rattle.lease.specs.declared.Entry.TheVariants.{Absent, Present}
-use Rattle.lease.specs.declared.Grant.{Grant}
-use Rattle.lease.specs.declared.Grant.TheVariants as G
 use Rattle.lease.specs.declared.Peer.{Peer}
 use Rattle.lease.specs.declared.Visit.{Visit}
-use Rattle.lease.specs.declared.Pass.{Pass}
-use Rattle.lease.specs.declared.Pass.TheVariants as P
+use Rattle.lease.specs.Pass.{Pass}
+use Rattle.lease.specs.Pass as P
 use Rattle.lease.specs.declared.Passed.{Passed}
 use Rattle.lease.specs.Tables.{below}
 use Rattle.lease.specs.Rows.{row_at, with_held, with_sent, granted, active_entry}
 
 -- No set means all.
-abbrev pub named : PeerSet → ℕ → Bool
-named All i = true
-named (Of b) i = is_one b i
+abbrev pub named : Option Bitmap → ℕ → Bool
+named None i = true
+named (Some b) i = is_one b i
 
 -- The row in none of the pass's sets, and in the first if `is` says so.
 abbrev pub in_none : Peer → Visit
@@ -37,43 +33,43 @@ in_first is row = record { peer = row; first = is; second = false }
 abbrev pub new_grants_row : Bool → Peer → Visit
 new_grants_row is-named row =
     cond (is-named && not (granted row.promise_sent))
-    (in_first true (with_sent row (Present Unarmed) row.promise_sent row.refresh_mark))
+    (in_first true (with_sent row (Some Unarmed) row.promise_sent row.refresh_mark))
     (in_none row)
 
 -- DoRevoke drops named sent guards, marks named sent promises as revoking (again, if already marked). The set: the latter.
-abbrev pub revoked : Grant → Grant
-revoked G.Absent = G.Absent
-revoked (G.Present t revoking) = G.Present t true
+abbrev pub revoked : Option (Timer × Bool) → Option (Timer × Bool)
+revoked None = None
+revoked (Some (t, revoking)) = Some (t, true)
 
 abbrev pub do_revoke_row : Bool → Peer → Visit
 do_revoke_row is-named row =
-    cond is-named (in_first (granted row.promise_sent) (with_sent row Absent (revoked row.promise_sent) row.refresh_mark)) (in_none row)
+    cond is-named (in_first (granted row.promise_sent) (with_sent row None (revoked row.promise_sent) row.refresh_mark)) (in_none row)
 
 -- ClearHeld: both held tables emptied.
 abbrev pub clear_held_row : Peer → Visit
-clear_held_row row = in_none (with_held row Absent Absent)
+clear_held_row row = in_none (with_held row None None)
 
 -- A number above: both guard tables and both promise tables are emptied. Marks outlive the number.
 abbrev pub higher_number_row : Peer → Visit
-higher_number_row row = in_none (with_held (with_sent row Absent G.Absent row.refresh_mark) Absent Absent)
+higher_number_row row = in_none (with_held (with_sent row None None row.refresh_mark) None None)
 
 -- ---- advance: each armed timer with deadline at or below the reading explodes once
 
-abbrev pub expired_entry : Reading → Entry → Entry
-expired_entry now Absent = Absent
-expired_entry now (Present t) = Present (expired_at now t).timer
+abbrev pub expired_entry : Reading → Option Timer → Option Timer
+expired_entry now None = None
+expired_entry now (Some t) = Some (expired_at now t).timer
 
-abbrev pub fires_entry : Reading → Entry → Bool
-fires_entry now Absent = false
-fires_entry now (Present t) = (expired_at now t).fired
+abbrev pub fires_entry : Reading → Option Timer → Bool
+fires_entry now None = false
+fires_entry now (Some t) = (expired_at now t).fired
 
-abbrev pub expired_grant : Reading → Grant → Grant
-expired_grant now G.Absent = G.Absent
-expired_grant now (G.Present t revoking) = G.Present (expired_at now t).timer revoking
+abbrev pub expired_grant : Reading → Option (Timer × Bool) → Option (Timer × Bool)
+expired_grant now None = None
+expired_grant now (Some (t, revoking)) = Some ((expired_at now t).timer, revoking)
 
-abbrev pub fires_grant : Reading → Grant → Bool
-fires_grant now G.Absent = false
-fires_grant now (G.Present t revoking) = (expired_at now t).fired
+abbrev pub fires_grant : Reading → Option (Timer × Bool) → Bool
+fires_grant now None = false
+fires_grant now (Some (t, revoking)) = (expired_at now t).fired
 
 -- The first set: the peers whose sent timers fired; the second: those whose held timers did.
 abbrev pub advance_row : Reading → Peer → Visit
@@ -95,13 +91,13 @@ advance_row now row =
 
 -- `attempt_refresh`: each marked peer with a sent promise, that the set contains, loses its mark; if not revoking and not exploded its
 -- timer is extended by T (`by` is T as the clock has it) and it is in the answer.
-abbrev pub refresh_on : Grant → Reading → ℕ → Bool → Peer → Visit
-refresh_on G.Absent now by is-named row = in_none row
-refresh_on (G.Present t revoking) now by is-named row =
+abbrev pub refresh_on : Option (Timer × Bool) → Reading → ℕ → Bool → Peer → Visit
+refresh_on None now by is-named row = in_none row
+refresh_on (Some (t, revoking)) now by is-named row =
     cond (is-named && row.refresh_mark)
     (cond (revoking || is_exploded t)
-    (in_none (with_sent row row.guard_sent (G.Present t revoking) false))
-    (in_first true (with_sent row row.guard_sent (G.Present (extended_by now by t) false) false)))
+    (in_none (with_sent row row.guard_sent (Some (t, revoking)) false))
+    (in_first true (with_sent row row.guard_sent (Some (extended_by now by t, false)) false)))
     (in_none row)
 
 abbrev pub refresh_row : Reading → ℕ → Bool → Peer → Visit

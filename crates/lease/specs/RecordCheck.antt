@@ -1,18 +1,12 @@
 -- Refusal 15: what is asked of a record before a call looks at anything else. Definitions only.
-use Rattle.std.specs.Prelude.{ℕ, zero, suc, ◌+◌, Bool, true, false, cond, not, ◌&&◌, ◌||◌, List, eqb, leb, ltb}
+use Rattle.std.specs.Prelude.{ℕ, zero, suc, ◌+◌, Bool, true, false, cond, not, ◌&&◌, ◌||◌, List, eqb, leb, ltb, Option, None, Some}
 use Rattle.bitmap.specs.Bitmaps.{capacity}
 use Rattle.drift.specs.Clocks.{is_settable}
 use Rattle.timer.specs.declared.Reading.{Reading}
 use Rattle.timer.specs.declared.Timer.{Timer}
 use Rattle.timer.specs.declared.Timer.TheVariants.{Unarmed, Armed, Exploded}
 use Rattle.timer.specs.Timers.{farthest}
-use Rattle.lease.specs.declared.Entry.{Entry}
-use Rattle.lease.specs.declared.Entry.TheVariants.{Absent, Present}
-use Rattle.lease.specs.declared.Grant.{Grant}
-use Rattle.lease.specs.declared.Grant.TheVariants as G
 use Rattle.lease.specs.declared.Peer.{Peer}
-use Rattle.lease.specs.declared.QuietTimer.{QuietTimer}
-use Rattle.lease.specs.declared.QuietTimer.TheVariants as Q
 use Rattle.lease.specs.declared.Manager.{Manager}
 use Rattle.lease.specs.Rows.{row_at, present, granted}
 use Rattle.lease.specs.Limits.{timeout_valid, population_valid, own_valid, reading_valid}
@@ -29,9 +23,9 @@ unarmed Unarmed = true
 unarmed (Armed d) = false
 unarmed Exploded = false
 
-abbrev pub sent_guard_valid : Entry → Bool
-sent_guard_valid Absent = true
-sent_guard_valid (Present t) = unarmed t
+abbrev pub sent_guard_valid : Option Timer → Bool
+sent_guard_valid None = true
+sent_guard_valid (Some t) = unarmed t
 
 -- No timer in another table is unarmed.
 abbrev pub timer_valid : Reading → Timer → Bool
@@ -39,17 +33,17 @@ timer_valid now Unarmed = false
 timer_valid now (Armed d) = deadline_valid now d
 timer_valid now Exploded = true
 
-abbrev pub entry_valid : Reading → Entry → Bool
-entry_valid now Absent = true
-entry_valid now (Present t) = timer_valid now t
+abbrev pub entry_valid : Reading → Option Timer → Bool
+entry_valid now None = true
+entry_valid now (Some t) = timer_valid now t
 
-abbrev pub grant_valid : Reading → Grant → Bool
-grant_valid now G.Absent = true
-grant_valid now (G.Present t revoking) = timer_valid now t
+abbrev pub grant_valid : Reading → Option (Timer × Bool) → Bool
+grant_valid now None = true
+grant_valid now (Some (t, revoking)) = timer_valid now t
 
-abbrev pub quiet_valid : Reading → QuietTimer → Bool
-quiet_valid now Q.None = true
-quiet_valid now (Q.Until d) = deadline_valid now d
+abbrev pub quiet_valid : Reading → Option Reading → Bool
+quiet_valid now None = true
+quiet_valid now (Some d) = deadline_valid now d
 
 -- ---- rows
 

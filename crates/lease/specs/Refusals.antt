@@ -1,39 +1,59 @@
--- Document 01, "Refused calls", of the calls on a record: each call's own refusals in their order, 0 where none applies. Definitions only.
-use Rattle.std.specs.Prelude.{ℕ, Bool, cond, not, eqb, leb, ltb}
+-- Document 01, "Refused calls": its numbers, and of the calls on a record each call's own refusals in their order. Definitions only.
+use Rattle.std.specs.Prelude.{ℕ, Bool, cond, not, eqb, leb, ltb, Option, None, Some, Result, Ok, Err}
 use Rattle.bitmap.specs.Operations.{bad_size}
+use Rattle.bitmap.specs.declared.Bitmap.{Bitmap}
 use Rattle.timer.specs.declared.Reading.{Reading}
-use Rattle.lease.specs.declared.PeerSet.{PeerSet}
-use Rattle.lease.specs.declared.PeerSet.TheVariants.{All, Of}
 use Rattle.lease.specs.declared.LeaseNotice.{LeaseNotice}
 use Rattle.lease.specs.declared.LeaseNotice.TheVariants as N
+use Rattle.lease.specs.declared.Refusal.{Refusal}
+use Rattle.lease.specs.declared.Refusal.TheVariants as R
 use Rattle.lease.specs.Limits.{reading_valid}
 
+-- Document 01's number of a refusal.
+abbrev pub refusal_number : Refusal → ℕ
+refusal_number R.TimeoutOutOfRange = 1
+refusal_number R.HeartbeatTooSlow = 2
+refusal_number R.PopulationOutOfRange = 3
+refusal_number R.OwnNotBelowPopulation = 4
+refusal_number R.ReadingTooHigh = 5
+refusal_number R.ReadingBelowPresent = 6
+refusal_number R.PeerNotBelowPopulation = 7
+refusal_number R.PeerIsOwn = 8
+refusal_number R.SetSizeNotPopulation = 9
+refusal_number R.SetSizeOutOfRange = 12
+refusal_number R.InvalidRecord = 15
+
 -- A notice about one peer, and time left: 7, peer not below population; 8, peer is own id.
-abbrev pub peer_refusal : ℕ → ℕ → ℕ → ℕ
-peer_refusal n me id = cond (leb n id) 7 (cond (eqb id me) 8 0)
+abbrev pub peer_refusal : ℕ → ℕ → ℕ → Result (Unit {0}) Refusal
+peer_refusal n me id = cond (leb n id) (Err R.PeerNotBelowPopulation) (cond (eqb id me) (Err R.PeerIsOwn) (Ok tt))
 
 -- NewGrants and DoRevoke with a set: 9, its size is not the population.
-abbrev pub set_refusal : ℕ → PeerSet → ℕ
-set_refusal n All = 0
-set_refusal n (Of b) = cond (eqb b.size n) 0 9
+abbrev pub set_refusal : ℕ → Option Bitmap → Result (Unit {0}) Refusal
+set_refusal n None = Ok tt
+set_refusal n (Some b) = cond (eqb b.size n) (Ok tt) (Err R.SetSizeNotPopulation)
 
-abbrev pub notice_refusal : ℕ → ℕ → LeaseNotice → ℕ
+abbrev pub notice_refusal : ℕ → ℕ → LeaseNotice → Result (Unit {0}) Refusal
 notice_refusal n me (N.NewGrants set bar) = set_refusal n set
 notice_refusal n me (N.DoRevoke set) = set_refusal n set
-notice_refusal n me N.ClearHeld = 0
+notice_refusal n me N.ClearHeld = Ok tt
 notice_refusal n me (N.RecvLeaseMsg id msg) = peer_refusal n me id
 notice_refusal n me (N.GrantTimeout id) = peer_refusal n me id
 notice_refusal n me (N.LeaseTimeout id) = peer_refusal n me id
 
 -- Advance: 5, reading over the maximum; then 6, reading below the present one (equal is accepted).
-abbrev pub advance_refusal : Reading → Reading → ℕ
-advance_refusal now to = cond (not (reading_valid to)) 5 (cond (ltb to.0 now.0) 6 0)
+abbrev pub advance_refusal : Reading → Reading → Result (Unit {0}) Refusal
+advance_refusal now to = cond (not (reading_valid to)) (Err R.ReadingTooHigh) (cond (ltb to.0 now.0) (Err R.ReadingBelowPresent) (Ok tt))
 
 -- A refresh set: 12, size not 1 to 64.
-abbrev pub refresh_refusal : PeerSet → ℕ
-refresh_refusal All = 0
-refresh_refusal (Of b) = cond (bad_size b.size) 12 0
+abbrev pub refresh_refusal : Option Bitmap → Result (Unit {0}) Refusal
+refresh_refusal None = Ok tt
+refresh_refusal (Some b) = cond (bad_size b.size) (Err R.SetSizeOutOfRange) (Ok tt)
+
+-- What a call gives whose own refusals are looked at: refused by the first that applies, else done.
+abbrev pub unless : {A : Type 0} → Result (Unit {0}) Refusal → (Refusal → A) → A → A
+unless (Ok x) refused done = done
+unless (Err e) refused done = refused e
 
 -- A call on a manager's record looks at the record first: 15. Then the call's own refusals; then what it does.
-abbrev pub judged : {A : Type 0} → Bool → ℕ → (ℕ → A) → A → A
-judged valid code refused done = cond valid (cond (eqb code 0) done (refused code)) (refused 15)
+abbrev pub judged : {A : Type 0} → Bool → Result (Unit {0}) Refusal → (Refusal → A) → A → A
+judged valid check refused done = cond valid (unless check refused done) (refused R.InvalidRecord)

@@ -1,13 +1,12 @@
 -- The starred Shift examples of document 01, as one list with one claim about the whole list. Definitions only.
-use Rattle.std.specs.Prelude.{◌≡◌, List, [], ◌∷◌, Bool, true, false, ℕ, ◌*◌, pos, negsuc}
+use Rattle.std.specs.Prelude.{◌≡◌, List, [], ◌∷◌, Bool, true, false, ℕ, ◌*◌, pos, negsuc, Option, None, Some, Result, Ok}
 use Rattle.bitmap.specs.Bitmaps.{bitmap_of}
+use Rattle.lease.specs.declared.Refusal.{Refusal}
+use Rattle.lease.specs.declared.Lines.{Lines}
+use Rattle.bitmap.specs.declared.Bitmap.{Bitmap}
 use Rattle.timer.specs.declared.Reading.{Reading}
 use Rattle.timer.specs.declared.Timer.TheVariants.{Armed}
 use Rattle.timer.specs.Timers.{drifted}
-use Rattle.lease.specs.declared.AcceptBar.TheVariants as B
-use Rattle.lease.specs.declared.PeerSet.TheVariants.{All, Of}
-use Rattle.lease.specs.declared.Entry.TheVariants.{Absent, Present}
-use Rattle.lease.specs.declared.Grant.TheVariants as G
 use Rattle.lease.specs.declared.Peer.{Peer}
 use Rattle.lease.specs.declared.LeaseNum.{LeaseNum}
 use Rattle.lease.specs.declared.LeaseMsg.TheVariants as M
@@ -16,23 +15,10 @@ use Rattle.lease.specs.declared.LeaseAction.TheVariants as A
 use Rattle.lease.specs.declared.LeaseNotice.TheVariants as N
 use Rattle.lease.specs.declared.Line.{Line}
 use Rattle.lease.specs.declared.Lines.TheVariants as L
-use Rattle.lease.specs.declared.QuietEnd.TheVariants as QE
-use Rattle.lease.specs.declared.DriftSetting.TheVariants as D
 use Rattle.lease.specs.declared.Manager.{Manager}
-use Rattle.lease.specs.declared.SetUpOutcome.{SetUpOutcome}
-use Rattle.lease.specs.declared.SetUpOutcome.TheVariants as SU
-use Rattle.lease.specs.declared.NoticeOutcome.{NoticeOutcome}
-use Rattle.lease.specs.declared.NoticeOutcome.TheVariants as NO
-use Rattle.lease.specs.declared.AdvanceOutcome.{AdvanceOutcome}
-use Rattle.lease.specs.declared.AdvanceOutcome.TheVariants as AO
-use Rattle.lease.specs.declared.PlainOutcome.{PlainOutcome}
-use Rattle.lease.specs.declared.PlainOutcome.TheVariants as PO
-use Rattle.lease.specs.declared.SetOutcome.{SetOutcome}
-use Rattle.lease.specs.declared.SetOutcome.TheVariants as SO
-use Rattle.lease.specs.declared.CountOutcome.{CountOutcome}
-use Rattle.lease.specs.declared.TimeLeftOutcome.{TimeLeftOutcome}
 use Rattle.lease.specs.Rows.{row_at, empty_row, with_held, with_sent}
 use Rattle.lease.specs.SetUp.{setup_of}
+use Rattle.lease.specs.Calls.{sets_of}
 use Rattle.lease.specs.Rules.{notice_of, advance_of, quiet_of, refresh_of, drift_of, grant_set_of, lease_set_of, lease_cnt_of, time_left_of}
 use Rattle.lease.specs.Verdicts.{Call, notice, advance, quiet-start, refresh, drift, grant-set, lease-set, lease-cnt, time-left, Verdict, refused, done, verdict}
 
@@ -46,13 +32,13 @@ pub data Ask : Type 0 where
   lasts : ℕ → Ask
 
 pub data Answer : Type 0 where
-  set-up : SetUpOutcome → Answer
-  noticed : NoticeOutcome → Answer
-  advanced : AdvanceOutcome → Answer
-  plain : PlainOutcome → Answer
-  set : SetOutcome → Answer
-  count : CountOutcome → Answer
-  left : TimeLeftOutcome → Answer
+  set-up : Result (Unit {0}) Refusal → Answer
+  noticed : Result Lines Refusal → Answer
+  advanced : Result (Bitmap × Bitmap × Option Line) Refusal → Answer
+  plain : Result (Unit {0}) Refusal → Answer
+  set : Result Bitmap Refusal → Answer
+  count : Result ℕ Refusal → Answer
+  left : Result (Option ℕ) Refusal → Answer
   row : Peer → Answer
   ns : ℕ → Answer
 
@@ -65,7 +51,7 @@ start = (setup_of 0 3 1000000000 0 (ms 0)).manager
 
 abbrev pub answer : Manager → Call → Answer
 answer m (notice num x) = noticed (notice_of m num x).outcome
-answer m (advance to) = advanced (advance_of m to).advanced.outcome
+answer m (advance to) = advanced (sets_of (advance_of m to).outcome)
 answer m quiet-start = plain (quiet_of m).outcome
 answer m (refresh to) = set (refresh_of m to).outcome
 answer m (drift x) = plain (drift_of m x).outcome
@@ -94,62 +80,62 @@ no n = record { 0 = n }
 abbrev pub under : ℕ → LeaseAction → Line
 under n a = record { 0 = no n; 1 = a }
 
-abbrev pub none_fired : AdvanceOutcome
-none_fired = AO.Fired (bitmap_of 3 0) (bitmap_of 3 0) QE.None
+abbrev pub none_fired : Result (Bitmap × Bitmap × Option Line) Refusal
+none_fired = Ok (bitmap_of 3 0, bitmap_of 3 0, None)
 
 -- A row with nothing but a promise sent, marked or not, or a promise held, and its deadline.
 abbrev pub promise_sent_row : Bool → Reading → Peer
-promise_sent_row mark deadline = with_sent empty_row Absent (G.Present (Armed deadline) false) mark
+promise_sent_row mark deadline = with_sent empty_row None (Some (Armed deadline, false)) mark
 
 abbrev pub promise_held_row : Reading → Peer
-promise_held_row deadline = with_held empty_row Absent (Present (Armed deadline))
+promise_held_row deadline = with_held empty_row None (Some (Armed deadline))
 
 -- ---- the starred lines
 
 unfoldable pub shift_asks : List Ask
 shift_asks =
     -- NewGrants under 1, no set; GuardReply from 1 at 10 ms; PromiseReply true at 20 ms; refresh; refresh again
-    anew ∷ call (notice (no 1) (N.NewGrants All B.None))
+    anew ∷ call (notice (no 1) (N.NewGrants None None))
     ∷ call (advance (ms 10)) ∷ call (notice (no 1) (N.RecvLeaseMsg 1 M.GuardReply)) ∷ look 1
     ∷ call (advance (ms 20)) ∷ call (notice (no 1) (N.RecvLeaseMsg 1 (M.PromiseReply true))) ∷ look 1
-    ∷ call (refresh All) ∷ look 1 ∷ call (refresh All)
+    ∷ call (refresh None) ∷ look 1 ∷ call (refresh None)
     -- NewGrants under 0, empty set; DoRevoke under 0
-    ∷ anew ∷ call (notice (no 0) (N.NewGrants (Of (bitmap_of 3 0)) B.None)) ∷ call (notice (no 0) (N.DoRevoke All))
+    ∷ anew ∷ call (notice (no 0) (N.NewGrants (Some (bitmap_of 3 0)) None)) ∷ call (notice (no 0) (N.DoRevoke None))
     -- Guard under 1 from 2 at 5 ms with bar 7; advance to 1,005; Promise; LeaseTimeout; Revoke under 0; lease set; at 2,004; at 2,005
-    ∷ anew ∷ call (advance (ms 5)) ∷ call (notice (no 1) (N.RecvLeaseMsg 2 (M.Guard (B.Some (record { 0 = 7 })))))
+    ∷ anew ∷ call (advance (ms 5)) ∷ call (notice (no 1) (N.RecvLeaseMsg 2 (M.Guard (Some (record { 0 = 7 })))))
     ∷ call (advance (ms 1005)) ∷ call (notice (no 1) (N.RecvLeaseMsg 2 M.Promise)) ∷ look 2 ∷ call (notice (no 1) (N.LeaseTimeout 2))
     ∷ call (notice (no 0) (N.RecvLeaseMsg 2 M.Revoke)) ∷ call lease-set
     ∷ call (advance (ms 2004)) ∷ call lease-set ∷ call (advance (ms 2005)) ∷ call lease-set
     -- GrantTimeout under 0 for 1
     ∷ anew ∷ call (notice (no 0) (N.GrantTimeout 1))
     -- Drift 25: 1 s becomes 800,000,000 ns; −50: 2 s; −100: 100 s; 127: 440,528,634 ns
-    ∷ anew ∷ call (drift (D.Drifting (pos 25))) ∷ lasts 1000000000
-    ∷ anew ∷ call (drift (D.Drifting (negsuc 49))) ∷ lasts 1000000000
-    ∷ anew ∷ call (drift (D.Drifting (negsuc 99))) ∷ lasts 1000000000
-    ∷ anew ∷ call (drift (D.Drifting (pos 127))) ∷ lasts 1000000000
+    ∷ anew ∷ call (drift (Some (pos 25))) ∷ lasts 1000000000
+    ∷ anew ∷ call (drift (Some (negsuc 49))) ∷ lasts 1000000000
+    ∷ anew ∷ call (drift (Some (negsuc 99))) ∷ lasts 1000000000
+    ∷ anew ∷ call (drift (Some (pos 127))) ∷ lasts 1000000000
     -- quiet from 0; advance to 2,000
     ∷ anew ∷ call quiet-start ∷ call grant-set ∷ call (advance (ms 2000)) ∷ []
 
 unfoldable pub shift_answers : List Answer
 shift_answers =
-    set-up SU.Done ∷ noticed (NO.Done (L.Two (under 1 A.HigherNumber) (under 1 (A.BcastLeaseMsgs (bitmap_of 3 6) (M.Guard B.None)))))
-    ∷ advanced none_fired ∷ noticed (NO.Done (L.One (under 1 (A.SendLeaseMsg 1 M.Promise)))) ∷ row (promise_sent_row false (ms 2010))
-    ∷ advanced none_fired ∷ noticed (NO.Done (L.One (under 1 (A.NextRefresh 1)))) ∷ row (promise_sent_row true (ms 1020))
-    ∷ set (SO.Ids (bitmap_of 3 2)) ∷ row (promise_sent_row false (ms 2020)) ∷ set (SO.Ids (bitmap_of 3 0))
-    ∷ set-up SU.Done ∷ noticed (NO.Done (L.One (under 0 (A.BcastLeaseMsgs (bitmap_of 3 0) (M.Guard B.None))))) ∷ noticed (NO.Done L.None)
-    ∷ set-up SU.Done ∷ advanced none_fired
-    ∷ noticed (NO.Done (L.Three (under 1 A.HigherNumber) (under 1 (A.GuardAcceptBar 2 (record { 0 = 7 }))) (under 1 (A.SendLeaseMsg 2 M.GuardReply))))
-    ∷ advanced (AO.Fired (bitmap_of 3 0) (bitmap_of 3 4) QE.None) ∷ noticed (NO.Done (L.One (under 1 (A.SendLeaseMsg 2 (M.PromiseReply true)))))
-    ∷ row (promise_held_row (ms 2005)) ∷ noticed (NO.Done L.None)
-    ∷ noticed (NO.Done (L.One (under 0 (A.SendLeaseMsg 2 (M.RevokeReply false))))) ∷ set (SO.Ids (bitmap_of 3 4))
-    ∷ advanced none_fired ∷ set (SO.Ids (bitmap_of 3 4)) ∷ advanced (AO.Fired (bitmap_of 3 0) (bitmap_of 3 4) QE.None) ∷ set (SO.Ids (bitmap_of 3 0))
-    ∷ set-up SU.Done ∷ noticed (NO.Done (L.One (under 0 (A.GrantTimeout 1))))
-    ∷ set-up SU.Done ∷ plain PO.Done ∷ ns 800000000
-    ∷ set-up SU.Done ∷ plain PO.Done ∷ ns 2000000000
-    ∷ set-up SU.Done ∷ plain PO.Done ∷ ns 100000000000
-    ∷ set-up SU.Done ∷ plain PO.Done ∷ ns 440528634
-    ∷ set-up SU.Done ∷ plain PO.Done ∷ set (SO.Ids (bitmap_of 3 6))
-    ∷ advanced (AO.Fired (bitmap_of 3 0) (bitmap_of 3 0) (QE.Given (under 0 (A.GrantTimeout 1)))) ∷ []
+    set-up (Ok tt) ∷ noticed (Ok (L.Two (under 1 A.HigherNumber) (under 1 (A.BcastLeaseMsgs (bitmap_of 3 6) (M.Guard None)))))
+    ∷ advanced none_fired ∷ noticed (Ok (L.One (under 1 (A.SendLeaseMsg 1 M.Promise)))) ∷ row (promise_sent_row false (ms 2010))
+    ∷ advanced none_fired ∷ noticed (Ok (L.One (under 1 (A.NextRefresh 1)))) ∷ row (promise_sent_row true (ms 1020))
+    ∷ set (Ok (bitmap_of 3 2)) ∷ row (promise_sent_row false (ms 2020)) ∷ set (Ok (bitmap_of 3 0))
+    ∷ set-up (Ok tt) ∷ noticed (Ok (L.One (under 0 (A.BcastLeaseMsgs (bitmap_of 3 0) (M.Guard None))))) ∷ noticed (Ok L.None)
+    ∷ set-up (Ok tt) ∷ advanced none_fired
+    ∷ noticed (Ok (L.Three (under 1 A.HigherNumber) (under 1 (A.GuardAcceptBar 2 (record { 0 = 7 }))) (under 1 (A.SendLeaseMsg 2 M.GuardReply))))
+    ∷ advanced (Ok (bitmap_of 3 0, bitmap_of 3 4, None)) ∷ noticed (Ok (L.One (under 1 (A.SendLeaseMsg 2 (M.PromiseReply true)))))
+    ∷ row (promise_held_row (ms 2005)) ∷ noticed (Ok L.None)
+    ∷ noticed (Ok (L.One (under 0 (A.SendLeaseMsg 2 (M.RevokeReply false))))) ∷ set (Ok (bitmap_of 3 4))
+    ∷ advanced none_fired ∷ set (Ok (bitmap_of 3 4)) ∷ advanced (Ok (bitmap_of 3 0, bitmap_of 3 4, None)) ∷ set (Ok (bitmap_of 3 0))
+    ∷ set-up (Ok tt) ∷ noticed (Ok (L.One (under 0 (A.GrantTimeout 1))))
+    ∷ set-up (Ok tt) ∷ plain (Ok tt) ∷ ns 800000000
+    ∷ set-up (Ok tt) ∷ plain (Ok tt) ∷ ns 2000000000
+    ∷ set-up (Ok tt) ∷ plain (Ok tt) ∷ ns 100000000000
+    ∷ set-up (Ok tt) ∷ plain (Ok tt) ∷ ns 440528634
+    ∷ set-up (Ok tt) ∷ plain (Ok tt) ∷ set (Ok (bitmap_of 3 6))
+    ∷ advanced (Ok (bitmap_of 3 0, bitmap_of 3 0, Some (under 0 (A.GrantTimeout 1)))) ∷ []
 
 -- The starred lines hold of the rules. Proved in proofs/Shift.
 abbrev pub ShiftExamples : Type 0

@@ -1,42 +1,31 @@
 -- Any call on a record, by its arguments other than the record, and what the rules make of it: refused by a number, or done, with its
 -- lines and the next record. Definitions only.
-use Rattle.std.specs.Prelude.{List, [], ◌∷◌, ℕ}
+use Rattle.std.specs.Prelude.{List, [], ◌∷◌, ℕ, Option, Result, Ok, Err, ℤ}
+use Rattle.lease.specs.declared.Refusal.{Refusal}
+use Rattle.bitmap.specs.declared.Bitmap.{Bitmap}
 use Rattle.timer.specs.declared.Reading.{Reading}
-use Rattle.lease.specs.declared.PeerSet.{PeerSet}
 use Rattle.lease.specs.declared.LeaseNum.{LeaseNum}
 use Rattle.lease.specs.declared.LeaseNotice.{LeaseNotice}
-use Rattle.lease.specs.declared.DriftSetting.{DriftSetting}
 use Rattle.lease.specs.declared.Line.{Line}
 use Rattle.lease.specs.declared.Lines.{Lines}
 use Rattle.lease.specs.declared.Lines.TheVariants as L
 use Rattle.lease.specs.declared.Manager.{Manager}
-use Rattle.lease.specs.declared.NoticeOutcome.{NoticeOutcome}
-use Rattle.lease.specs.declared.NoticeOutcome.TheVariants as NO
-use Rattle.lease.specs.declared.AdvanceOutcome.{AdvanceOutcome}
-use Rattle.lease.specs.declared.AdvanceOutcome.TheVariants as AO
-use Rattle.lease.specs.declared.PlainOutcome.{PlainOutcome}
-use Rattle.lease.specs.declared.PlainOutcome.TheVariants as PO
-use Rattle.lease.specs.declared.SetOutcome.{SetOutcome}
-use Rattle.lease.specs.declared.SetOutcome.TheVariants as SO
-use Rattle.lease.specs.declared.CountOutcome.{CountOutcome}
-use Rattle.lease.specs.declared.CountOutcome.TheVariants as CO
-use Rattle.lease.specs.declared.TimeLeftOutcome.{TimeLeftOutcome}
-use Rattle.lease.specs.declared.TimeLeftOutcome.TheVariants as TO
+use Rattle.lease.specs.declared.Advanced.{Advanced}
 use Rattle.lease.specs.Rules.{notice_of, advance_of, quiet_of, refresh_of, drift_of, grant_set_of, lease_set_of, lease_cnt_of, time_left_of}
 
 pub data Call : Type 0 where
   notice : LeaseNum → LeaseNotice → Call
   advance : Reading → Call
   quiet-start : Call
-  refresh : PeerSet → Call
-  drift : DriftSetting → Call
+  refresh : Option Bitmap → Call
+  drift : Option ℤ → Call
   grant-set : Call
   lease-set : Call
   lease-cnt : Call
   time-left : ℕ → Call
 
 pub data Verdict : Type 0 where
-  refused : ℕ → Verdict
+  refused : Refusal → Verdict
   done : List Line → Manager → Verdict
 
 abbrev pub lines_of : Lines → List Line
@@ -45,34 +34,34 @@ lines_of (L.One a) = a ∷ []
 lines_of (L.Two a b) = a ∷ b ∷ []
 lines_of (L.Three a b c) = a ∷ b ∷ c ∷ []
 
-abbrev pub by_notice : NoticeOutcome → Manager → Verdict
-by_notice (NO.Refused k) m = refused k
-by_notice (NO.Done lines) m = done (lines_of lines) m
+abbrev pub by_notice : Result Lines Refusal → Manager → Verdict
+by_notice (Err k) m = refused k
+by_notice (Ok lines) m = done (lines_of lines) m
 
 -- The quiet-end line is no notice's line: the log leaves it out.
-abbrev pub by_advance : AdvanceOutcome → Manager → Verdict
-by_advance (AO.Refused k) m = refused k
-by_advance (AO.Fired sent held quiet) m = done [] m
+abbrev pub by_advance : Result Advanced Refusal → Manager → Verdict
+by_advance (Err k) m = refused k
+by_advance (Ok fired) m = done [] m
 
-abbrev pub by_plain : PlainOutcome → Manager → Verdict
-by_plain (PO.Refused k) m = refused k
-by_plain PO.Done m = done [] m
+abbrev pub by_plain : Result (Unit {0}) Refusal → Manager → Verdict
+by_plain (Err k) m = refused k
+by_plain (Ok tt) m = done [] m
 
-abbrev pub by_set : SetOutcome → Manager → Verdict
-by_set (SO.Refused k) m = refused k
-by_set (SO.Ids set) m = done [] m
+abbrev pub by_set : Result Bitmap Refusal → Manager → Verdict
+by_set (Err k) m = refused k
+by_set (Ok set) m = done [] m
 
-abbrev pub by_count : CountOutcome → Manager → Verdict
-by_count (CO.Refused k) m = refused k
-by_count (CO.Count n) m = done [] m
+abbrev pub by_count : Result ℕ Refusal → Manager → Verdict
+by_count (Err k) m = refused k
+by_count (Ok n) m = done [] m
 
-abbrev pub by_time_left : TimeLeftOutcome → Manager → Verdict
-by_time_left (TO.Refused k) m = refused k
-by_time_left (TO.Left x) m = done [] m
+abbrev pub by_time_left : Result (Option ℕ) Refusal → Manager → Verdict
+by_time_left (Err k) m = refused k
+by_time_left (Ok x) m = done [] m
 
 abbrev pub verdict : Manager → Call → Verdict
 verdict m (notice num x) = by_notice (notice_of m num x).outcome (notice_of m num x).manager
-verdict m (advance to) = by_advance (advance_of m to).advanced.outcome (advance_of m to).manager
+verdict m (advance to) = by_advance (advance_of m to).outcome (advance_of m to).manager
 verdict m quiet-start = by_plain (quiet_of m).outcome (quiet_of m).manager
 verdict m (refresh set) = by_set (refresh_of m set).outcome (refresh_of m set).manager
 verdict m (drift x) = by_plain (drift_of m x).outcome (drift_of m x).manager

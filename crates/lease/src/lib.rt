@@ -1,6 +1,10 @@
 // The types of the lease manager, with the names of the Rust's src/server/leaseman.rs. The rules on
-// them, document 01 as definitions, stand in specs/. No code.
+// them, document 01 as definitions, stand in specs/.
 #![tactic(auto)]
+
+ghost use Rattle.std.specs.Prelude.{◌≡◌};
+ghost use Rattle.lease.specs.Handlers.{no_action, one_action, two_actions};
+ghost use Rattle.lease.specs.Refusals.{refusal_number};
 
 use bitmap::Bitmap;
 use drift::Clock;
@@ -12,62 +16,28 @@ pub type ReplicaId = usize;
 
 // Lease number, never decreasing. A tuple struct of its own, as `Bar` and `Reading`, so that one is
 // never taken for another.
-#[derive(Clone, Copy)]
+#[derive(Clone, Copy, PartialEq, Eq, PartialOrd, Ord)]
 pub struct LeaseNum(pub u64);
 
 // Accept bar: a threshold that a Guard may carry for the protocol above.
 #[derive(Clone, Copy)]
 pub struct Bar(pub u64);
 
-// The Rust's `accept_bar: Option<usize>`.
-#[derive(Clone, Copy)]
-pub enum AcceptBar {
-    None,
-    Some(Bar),
-}
-
-// The Rust's `peers: Option<Bitmap>`: no set means all.
-#[derive(Clone, Copy)]
-pub enum PeerSet {
-    All,
-    Of(Bitmap),
-}
-
 // ---- the record
 
-// An id's entry of `guards_sent`, `guards_held` or `promises_held`.
-#[derive(Clone, Copy)]
-pub enum Entry {
-    Absent,
-    Present(Timer),
-}
-
-// An id's entry of `promises_sent`: its timer, and whether it is being revoked.
-#[derive(Clone, Copy)]
-pub enum Grant {
-    Absent,
-    Present(Timer, bool),
-}
-
-// One id's row: its entry of each of the four tables, and its refresh mark.
+// One id's row: its entry of each of the Rust's `guards_sent`, `promises_sent`, `guards_held` and
+// `promises_held`, and its refresh mark. A sent promise has its timer, and whether it is being revoked.
 #[derive(Clone, Copy)]
 pub struct Peer {
-    pub guard_sent: Entry,
-    pub promise_sent: Grant,
-    pub guard_held: Entry,
-    pub promise_held: Entry,
+    pub guard_sent: Option<Timer>,
+    pub promise_sent: Option<(Timer, bool)>,
+    pub guard_held: Option<Timer>,
+    pub promise_held: Option<Timer>,
     pub refresh_mark: bool,
 }
 
-// The Rust's `quiet_timer: Option<Timer>`: none, or the reading at which quiet time (document 01's
-// term) ends.
-#[derive(Clone, Copy)]
-pub enum QuietTimer {
-    None,
-    Until(Reading),
-}
-
-// The manager's record. `expire_timeout` is document 01's T, in ns.
+// The manager's record. `expire_timeout` is document 01's T, in ns; `quiet_timer` is none, or the reading
+// at which quiet time (document 01's term) ends.
 #[derive(Clone, Copy)]
 pub struct Manager {
     pub me: ReplicaId,
@@ -76,7 +46,7 @@ pub struct Manager {
     pub now: Reading,
     pub active_num: LeaseNum,
     pub clock: Clock,
-    pub quiet_timer: QuietTimer,
+    pub quiet_timer: Option<Reading>,
     pub peers: [Peer; 64],
 }
 
@@ -84,7 +54,8 @@ pub struct Manager {
 
 #[derive(Clone, Copy)]
 pub enum LeaseMsg {
-    Guard(AcceptBar),
+    // the Rust's `accept_bar`
+    Guard(Option<Bar>),
     GuardReply,
     Promise,
     // held
@@ -94,10 +65,11 @@ pub enum LeaseMsg {
     RevokeReply(bool),
 }
 
+// A set is the Rust's `peers: Option<Bitmap>`: no set means all.
 #[derive(Clone, Copy)]
 pub enum LeaseNotice {
-    NewGrants(PeerSet, AcceptBar),
-    DoRevoke(PeerSet),
+    NewGrants(Option<Bitmap>, Option<Bar>),
+    DoRevoke(Option<Bitmap>),
     ClearHeld,
     RecvLeaseMsg(ReplicaId, LeaseMsg),
     GrantTimeout(ReplicaId),
@@ -126,7 +98,8 @@ pub enum LeaseAction {
     GuardAcceptBar(ReplicaId, Bar),
 }
 
-// The actions of a handler, in order, before they are numbered.
+// The actions of a handler, in order, before they are numbered. No list: with no heap one would need a capacity, and an
+// error that cannot come.
 #[derive(Clone, Copy)]
 pub enum Actions {
     None,
@@ -138,7 +111,7 @@ pub enum Actions {
 #[derive(Clone, Copy)]
 pub struct Line(pub LeaseNum, pub LeaseAction);
 
-// The numbered actions of one notice, in order: at most three.
+// The numbered actions of one notice, in order: at most three, and no list for the same reason.
 #[derive(Clone, Copy)]
 pub enum Lines {
     None,
@@ -164,21 +137,34 @@ pub struct Handled {
     pub actions: Actions,
 }
 
-// A rule on every peer's row: the passes over the ids.
-#[derive(Clone, Copy)]
-pub enum Pass {
-    NewGrants(PeerSet),
-    DoRevoke(PeerSet),
-    ClearHeld,
-    HigherNumber,
-    Advance(Reading),
-    // The set, the reading, and T as the clock has it.
-    Refresh(PeerSet, Reading, u64),
-    // The test of `grant_set` outside quiet time, and in it.
-    Granted,
-    Everyone,
-    // The test of `lease_set`.
-    Leased(Reading),
+// The three ways in which a handler ends, on the row after it: no action, one, two.
+impl Handled {
+    pub fn no_action(peer: Peer) -> Handled
+        ensures { result ≡ no_action peer }
+    {
+        Handled {
+            peer,
+            actions: Actions::None,
+        }
+    }
+
+    pub fn one_action(peer: Peer, action: LeaseAction) -> Handled
+        ensures { result ≡ one_action peer action }
+    {
+        Handled {
+            peer,
+            actions: Actions::One(action),
+        }
+    }
+
+    pub fn two_actions(peer: Peer, first: LeaseAction, second: LeaseAction) -> Handled
+        ensures { result ≡ two_actions peer first second }
+    {
+        Handled {
+            peer,
+            actions: Actions::Two(first, second),
+        }
+    }
 }
 
 // What a pass makes of one row, and whether the id is in the pass's first set and in its second.
@@ -223,7 +209,8 @@ pub struct FiredTimer {
     pub id: u8,
 }
 
-// The timers that fired, in order: the first `count` places. The others hold the sent timer of the id 0.
+// The timers that fired, in order: the first `count` places. The others hold the sent timer of the id 0. A count beside
+// an array, since a host gets it over the C interface as it is.
 #[repr(C)]
 #[derive(Clone, Copy)]
 pub struct FiredTimers {
@@ -231,110 +218,59 @@ pub struct FiredTimers {
     pub timers: [FiredTimer; 128],
 }
 
-// The quiet-end line (document 01's term), if advance gives it.
-#[derive(Clone, Copy)]
-pub enum QuietEnd {
-    None,
-    Given(Line),
+// ---- the answers: what a call did, or why it was refused
+
+// Document 01's refusals of set-up and of the calls on a record.
+#[derive(Clone, Copy, PartialEq, Eq)]
+pub enum Refusal {
+    TimeoutOutOfRange,
+    HeartbeatTooSlow,
+    PopulationOutOfRange,
+    OwnNotBelowPopulation,
+    ReadingTooHigh,
+    ReadingBelowPresent,
+    PeerNotBelowPopulation,
+    PeerIsOwn,
+    SetSizeNotPopulation,
+    SetSizeOutOfRange,
+    InvalidRecord,
 }
 
-// A drift setting: a true clock, or one that drifts by that many percent.
-#[derive(Clone, Copy)]
-pub enum DriftSetting {
-    True,
-    Drifting(i8),
+impl Refusal {
+    // Document 01's number of the refusal.
+    pub fn number(self) -> u8
+        ensures { result ≡ refusal_number self }
+    {
+        match self {
+            Refusal::TimeoutOutOfRange => 1,
+            Refusal::HeartbeatTooSlow => 2,
+            Refusal::PopulationOutOfRange => 3,
+            Refusal::OwnNotBelowPopulation => 4,
+            Refusal::ReadingTooHigh => 5,
+            Refusal::ReadingBelowPresent => 6,
+            Refusal::PeerNotBelowPopulation => 7,
+            Refusal::PeerIsOwn => 8,
+            Refusal::SetSizeNotPopulation => 9,
+            Refusal::SetSizeOutOfRange => 12,
+            Refusal::InvalidRecord => 15,
+        }
+    }
 }
 
-// Time left of a held promise, in whole ms rounded up.
-#[derive(Clone, Copy)]
-pub enum TimeLeft {
-    None,
-    Ms(u64),
-}
-
-// ---- the answers: what a call did, or document 01's number of its refusal
-
-#[derive(Clone, Copy)]
-pub enum SetUpOutcome {
-    Refused(u8),
-    Done,
-}
-
-#[derive(Clone, Copy)]
-pub enum NoticeOutcome {
-    Refused(u8),
-    Done(Lines),
-}
-
-#[derive(Clone, Copy)]
-pub enum AdvanceOutcome {
-    Refused(u8),
-    // The peers whose sent timers fired, those whose held timers fired, and the quiet-end line.
-    Fired(Bitmap, Bitmap, QuietEnd),
-}
-
-// What advance answers: the sets, and the same timers as a list in order (document 02, wish 2). A struct, as an enum
-// cannot hold an array. The list of a refused advance is empty.
+// What advance did: the peers whose sent timers fired, those whose held timers fired, the quiet-end line
+// (document 01's term) where it is due, and the same timers as a list in order (document 02, wish 2).
 #[derive(Clone, Copy)]
 pub struct Advanced {
-    pub outcome: AdvanceOutcome,
+    pub sent: Bitmap,
+    pub held: Bitmap,
+    pub quiet_end: Option<Line>,
     pub fired: FiredTimers,
 }
 
-// Of `assume_unknown_grants` and the drift setting.
+// A by-value answer holds the next record beside the outcome. On a refusal it is the record that went in; on
+// a refused set-up it is a record that every call refuses.
 #[derive(Clone, Copy)]
-pub enum PlainOutcome {
-    Refused(u8),
-    Done,
-}
-
-// Of `grant_set`, `lease_set` and `attempt_refresh`.
-#[derive(Clone, Copy)]
-pub enum SetOutcome {
-    Refused(u8),
-    Ids(Bitmap),
-}
-
-#[derive(Clone, Copy)]
-pub enum CountOutcome {
-    Refused(u8),
-    Count(u64),
-}
-
-#[derive(Clone, Copy)]
-pub enum TimeLeftOutcome {
-    Refused(u8),
-    Left(TimeLeft),
-}
-
-// A by-value answer holds the next record beside the outcome, as an enum cannot hold an array. On a
-// refusal it is the record that went in; on a refused set-up it is a record that every call refuses.
-#[derive(Clone, Copy)]
-pub struct SetUpAnswer {
-    pub outcome: SetUpOutcome,
-    pub manager: Manager,
-}
-
-#[derive(Clone, Copy)]
-pub struct NoticeAnswer {
-    pub outcome: NoticeOutcome,
-    pub manager: Manager,
-}
-
-#[derive(Clone, Copy)]
-pub struct AdvanceAnswer {
-    pub advanced: Advanced,
-    pub manager: Manager,
-}
-
-#[derive(Clone, Copy)]
-pub struct PlainAnswer {
-    pub outcome: PlainOutcome,
-    pub manager: Manager,
-}
-
-#[derive(Clone, Copy)]
-pub struct RefreshAnswer {
-    pub outcome: SetOutcome,
+pub struct Answered<T> {
+    pub outcome: Result<T, Refusal>,
     pub manager: Manager,
 }

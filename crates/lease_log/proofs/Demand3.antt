@@ -1,5 +1,6 @@
 -- Demand 3 of the rules: after any list of calls from an accepted set-up, refused ones and questions included, the log decides the
 -- grant set, the lease set and the count; and no record on the way is refused with 15. Assumes nothing.
+use Rattle.std.specs.Prelude.{Option, None, Some, Result, Ok, Err, ℤ}
 use mathlib.Core.Path.{◌≡◌, refl, ap, sym, subst, ◌∙◌}
 use mathlib.Core.List.{List, [], ◌∷◌}
 use mathlib.Core.Bool.{Bool, true, false, not, cond, ◌&&◌}
@@ -7,43 +8,32 @@ use Prim.Native.Nat.{ℕ, zero, suc, ◌+◌, ◌*◌, ◌≤◌, ◌<◌}
 use native.Mathlib.Omega.{arith}
 use lib.Dec.{leb, ltb, eqb}
 use lib.ListN.{length-replicate, get_or-replicate}
-use borrow.Author.Tests.{ltb-true, ltb-false, leb-true, eqb-true, lt-ltb, le-ltb, le-leb}
+use borrow.Author.Tests.{ltb-true, ltb-false, leb-true, lt-ltb, le-ltb, le-leb}
 use Rattle.bitmap.specs.Bitmaps.{capacity, bitmap_of}
 use Rattle.bitmap.specs.Sets.{one, count_where}
 use Rattle.bitmap.proofs.Laws.{ids_where-same, count_where-same}
 use Rattle.drift.specs.Clocks.{is_settable}
+use Rattle.lease.specs.declared.Answered.{Answered}
+use Rattle.lease.specs.declared.Refusal.{Refusal}
+use Rattle.lease.specs.declared.Lines.{Lines}
+use Rattle.bitmap.specs.declared.Bitmap.{Bitmap}
 use Rattle.timer.specs.declared.Reading.{Reading}
 use Rattle.timer.specs.Timers.{max_reading, drifted}
-use Rattle.lease.specs.declared.QuietTimer.{QuietTimer}
-use Rattle.lease.specs.declared.QuietTimer.TheVariants as Q
-use Rattle.lease.specs.declared.PeerSet.{PeerSet}
 use Rattle.lease.specs.declared.LeaseNum.{LeaseNum}
 use Rattle.lease.specs.declared.LeaseNotice.{LeaseNotice}
 use Rattle.lease.specs.declared.Manager.{Manager}
-use Rattle.lease.specs.declared.DriftSetting.{DriftSetting}
-use Rattle.lease.specs.declared.SetOutcome.{SetOutcome}
-use Rattle.lease.specs.declared.CountOutcome.{CountOutcome}
-use Rattle.lease.specs.declared.TimeLeftOutcome.{TimeLeftOutcome}
-use Rattle.lease.specs.declared.SetUpAnswer.{SetUpAnswer}
-use Rattle.lease.specs.declared.SetUpOutcome.TheVariants.{Done, Refused}
-use Rattle.lease.specs.declared.NoticeAnswer.{NoticeAnswer}
-use Rattle.lease.specs.declared.AdvanceAnswer.{AdvanceAnswer}
-use Rattle.lease.specs.declared.RefreshAnswer.{RefreshAnswer}
-use Rattle.lease.specs.declared.PlainAnswer.{PlainAnswer}
+use Rattle.lease.specs.declared.Advanced.{Advanced}
 use Rattle.lease.specs.declared.LeaseNotice.TheVariants as N
-use Rattle.lease.specs.declared.Pass.TheVariants as P
-use Rattle.lease.specs.declared.SetOutcome.TheVariants as SO
-use Rattle.lease.specs.declared.CountOutcome.TheVariants as CO
-use Rattle.lease.specs.declared.TimeLeftOutcome.TheVariants as TO
-use Rattle.lease.specs.declared.NoticeOutcome.TheVariants as NO
-use Rattle.lease.specs.declared.PlainOutcome.TheVariants as PO
+use Rattle.lease.specs.Pass as P
 use Rattle.lease.specs.Rows.{row_at, empty_row, granted, active_entry}
 use Rattle.lease.specs.Passes.{is_first, pass_over}
 use Rattle.lease.specs.Limits.{within, timeout_valid, population_valid, own_valid, reading_valid}
 use Rattle.lease.specs.RecordCheck.{row_empty, row_valid_at, rows_valid, quiet_valid, limits_valid, record_valid}
 use Rattle.lease.specs.Notices.{acted_under, on_peer, handle_new_grants, handle_do_revoke, handle_clear_held, raised_to, handle_notice, accepted_of, outdated, numbered}
 use Rattle.lease.specs.Calls.{is_quiet, advance_to, assume_unknown_grants, attempt_refresh, set_drift, grant_set, lease_set, lease_cnt}
-use Rattle.lease.specs.Rules.{grant_set_of, lease_set_of, lease_cnt_of, time_left_of, notice_given, advance_refused, notice_of, advance_of, quiet_of, refresh_of, drift_of}
+use Rattle.lease.specs.Rules.{grant_set_of, lease_set_of, lease_cnt_of, time_left_of, notice_given, notice_of, advance_of, quiet_of, refresh_of, drift_of}
+use Rattle.lease.specs.declared.Refusal.TheVariants as R
+use Rattle.lease.specs.Refusals.{unless}
 use Rattle.lease.specs.SetUp.{setup_refusal, fresh, setup_of}
 use Rattle.lease.specs.Refusals.{notice_refusal, advance_refusal, refresh_refusal}
 use Rattle.lease.proofs.Judged.{judged-by, plain_of}
@@ -57,13 +47,13 @@ use Rattle.lease_log.proofs.RowFacts.{RowInv, row-grant, row_open, row-lease, ro
 use Rattle.lease_log.proofs.Invariant.{QuietOk, Inv, longer, notice-inv, advance-inv, quiet-inv, drift-inv, refresh-inv}
 
 -- a test that refuses where it is true, or where it is false, passed
-passed : (b : Bool) (k x : ℕ) → cond b (suc k) x ≡ 0 → (b ≡ false) × (x ≡ 0)
-passed true k x h = absurd (omega arith)
+passed : (b : Bool) (k : Refusal) (x : Result (Unit {0}) Refusal) → cond b (Err k) x ≡ Ok tt → (b ≡ false) × (x ≡ Ok tt)
+passed true k x h = absurd (let z : ◌≡◌ {A = ℕ} 0 1 = cc in omega arith)
 passed false k x h = (refl, h)
 
-valid : (b : Bool) (k x : ℕ) → cond (not b) (suc k) x ≡ 0 → (b ≡ true) × (x ≡ 0)
+valid : (b : Bool) (k : Refusal) (x : Result (Unit {0}) Refusal) → cond (not b) (Err k) x ≡ Ok tt → (b ≡ true) × (x ≡ Ok tt)
 valid true k x h = (refl, h)
-valid false k x h = absurd (omega arith)
+valid false k x h = absurd (let z : ◌≡◌ {A = ℕ} 0 1 = cc in omega arith)
 
 both-limits : (low x high : ℕ) → within low x high ≡ true → (low ≤ x) × (x ≤ high)
 both-limits low x high h = go (lebb low x)
@@ -122,61 +112,61 @@ module _ (r : Run) (i : Inv r.manager r.journal) where
   notice-step : (num : LeaseNum) (x : LeaseNotice) → RunInv r (stepped r (notice num x) (verdict m (notice num x)))
   unfolding notice_of
   notice-step num x =
-      judged-by (λ (a : NoticeAnswer). RunInv r (stepped r (notice num x) (by_notice a.outcome a.manager))) (record_valid m) (notice_refusal m.population m.me x)
-      (λ k. record { outcome = NO.Refused k; manager = m }) (notice_given (accepted_of m num x)) (λ k. same-run) (λ z. (ok z, accepted-kept m num x))
+      judged-by (λ (a : Answered Lines). RunInv r (stepped r (notice num x) (by_notice a.outcome a.manager))) (record_valid m) (notice_refusal m.population m.me x)
+      (λ k. record { outcome = Err k; manager = m }) (notice_given (accepted_of m num x)) (λ k. same-run) (λ z. (ok z, accepted-kept m num x))
     where
-      ok : notice_refusal m.population m.me x ≡ 0 → Inv (accepted_of m num x).manager (noted j (notice num x) (lines_of (accepted_of m num x).lines))
+      ok : notice_refusal m.population m.me x ≡ Ok tt → Inv (accepted_of m num x).manager (noted j (notice num x) (lines_of (accepted_of m num x).lines))
       ok z = subst (λ n. Inv (accepted_of m num x).manager (longer j (stamped n j.clock (lines_of (accepted_of m num x).lines)))) (sym i.same-now)
           (subst (λ c. Inv (accepted_of m num x).manager (longer j (stamped m.now c (lines_of (accepted_of m num x).lines)))) (sym i.same-clock)
           (notice-inv m j i num x z))
 
-  in-time : (to : Reading) → advance_refusal m.now to ≡ 0 → (m.now.0 ≤ to.0) × (to.0 ≤ max_reading)
+  in-time : (to : Reading) → advance_refusal m.now to ≡ Ok tt → (m.now.0 ≤ to.0) × (to.0 ≤ max_reading)
   in-time to a =
-      let x = valid (reading_valid to) 4 (cond (ltb to.0 m.now.0) 6 0) a in
-      let y = passed (ltb to.0 m.now.0) 5 0 x.1 in
+      let x = valid (reading_valid to) R.ReadingTooHigh (cond (ltb to.0 m.now.0) (Err R.ReadingBelowPresent) (Ok tt)) a in
+      let y = passed (ltb to.0 m.now.0) R.ReadingBelowPresent (Ok tt) x.1 in
       (ltb-false to.0 m.now.0 y.0, leb-true to.0 max_reading x.0)
 
   advance-step : (to : Reading) → RunInv r (stepped r (advance to) (verdict m (advance to)))
   unfolding advance_of advance_to
   advance-step to =
-      judged-by (λ (a : AdvanceAnswer). RunInv r (stepped r (advance to) (by_advance a.advanced.outcome a.manager))) (record_valid m) (advance_refusal m.now to)
-      (advance_refused m) (advance_to m to) (λ k. same-run)
+      judged-by (λ (a : Answered Advanced). RunInv r (stepped r (advance to) (by_advance a.outcome a.manager))) (record_valid m) (advance_refusal m.now to)
+      (λ k. record { outcome = Err k; manager = m }) (advance_to m to) (λ k. same-run)
       (λ z. let h = in-time to z in (advance-inv m j i to h.0 h.1, record { me-kept = refl; n_kept = refl; t-kept = refl }))
 
   -- a quiet start and a drift setting, which 15 alone refuses
   plain_step : (c : Call) (next : Manager) → RunInv r (stepped r c (done [] next))
       → RunInv r (stepped r c (by_plain (plain_of m next).outcome (plain_of m next).manager))
   plain_step c next ok =
-      judged-by (λ (a : PlainAnswer). RunInv r (stepped r c (by_plain a.outcome a.manager))) (record_valid m) 0
-      (λ k. record { outcome = PO.Refused k; manager = m }) (record { outcome = PO.Done; manager = next }) (λ k. same-run) (λ z. ok)
+      judged-by (λ (a : Answered (Unit {0})). RunInv r (stepped r c (by_plain a.outcome a.manager))) (record_valid m) (Ok tt)
+      (λ k. record { outcome = Err k; manager = m }) (record { outcome = Ok tt; manager = next }) (λ k. same-run) (λ z. ok)
 
   quiet_step : RunInv r (stepped r quiet-start (verdict m quiet-start))
   unfolding quiet_of assume_unknown_grants
   quiet_step = plain_step quiet-start (assume_unknown_grants m) (quiet-inv m j i, record { me-kept = refl; n_kept = refl; t-kept = refl })
 
-  drift-step : (x : DriftSetting) → Typed (drift x) → RunInv r (stepped r (drift x) (verdict m (drift x)))
+  drift-step : (x : Option ℤ) → Typed (drift x) → RunInv r (stepped r (drift x) (verdict m (drift x)))
   unfolding drift_of set_drift
   drift-step x f = plain_step (drift x) (set_drift m x) (drift-inv m j i x f, record { me-kept = refl; n_kept = refl; t-kept = refl })
 
-  refresh-step : (set : PeerSet) → RunInv r (stepped r (refresh set) (verdict m (refresh set)))
+  refresh-step : (set : Option Bitmap) → RunInv r (stepped r (refresh set) (verdict m (refresh set)))
   unfolding refresh_of attempt_refresh
   refresh-step set =
-      judged-by (λ (a : RefreshAnswer). RunInv r (stepped r (refresh set) (by_set a.outcome a.manager))) (record_valid m) (refresh_refusal set)
-      (λ k. record { outcome = SO.Refused k; manager = m }) (attempt_refresh m set) (λ k. same-run)
+      judged-by (λ (a : Answered Bitmap). RunInv r (stepped r (refresh set) (by_set a.outcome a.manager))) (record_valid m) (refresh_refusal set)
+      (λ k. record { outcome = Err k; manager = m }) (attempt_refresh m set) (λ k. same-run)
       (λ z. (refresh-inv m j i set, record { me-kept = refl; n_kept = refl; t-kept = refl }))
 
   -- a question changes nothing
-  set-step : (o : SetOutcome) (c : Call) → noted j c [] ≡ j → RunInv r (stepped r c (by_set o m))
-  set-step (SO.Refused k) c e = same-run
-  set-step (SO.Ids b) c e = (subst (λ x. Inv m x) (sym e) i, kept m)
+  set-step : (o : Result Bitmap Refusal) (c : Call) → noted j c [] ≡ j → RunInv r (stepped r c (by_set o m))
+  set-step (Err k) c e = same-run
+  set-step (Ok b) c e = (subst (λ x. Inv m x) (sym e) i, kept m)
 
-  count-step : (o : CountOutcome) → RunInv r (stepped r lease-cnt (by_count o m))
-  count-step (CO.Refused k) = same-run
-  count-step (CO.Count n) = same-run
+  count-step : (o : Result ℕ Refusal) → RunInv r (stepped r lease-cnt (by_count o m))
+  count-step (Err k) = same-run
+  count-step (Ok n) = same-run
 
-  left_step : (o : TimeLeftOutcome) (id : ℕ) → RunInv r (stepped r (time-left id) (by_time_left o m))
-  left_step (TO.Refused k) id = same-run
-  left_step (TO.Left x) id = same-run
+  left_step : (o : Result (Option ℕ) Refusal) (id : ℕ) → RunInv r (stepped r (time-left id) (by_time_left o m))
+  left_step (Err k) id = same-run
+  left_step (Ok x) id = same-run
 
   call_step : (c : Call) → Typed c → RunInv r (stepped r c (verdict m c))
   call_step (notice num x) f = notice-step num x
@@ -208,11 +198,11 @@ module _ (m : Manager) (j : Journal) (i : Inv m j) where
   same-quiet : is_quiet m.now m.quiet_timer ≡ quiet_time t j
   same-quiet = go m.quiet_timer j.quiet i.quiet_ok
     where
-      go : (q : QuietTimer) (k : QuietStart) → QuietOk t m.now q k → is_quiet m.now q ≡ quiet_since t j.now k
-      go Q.None never h = refl
-      go Q.None (since r c) h = rw i.same-now (sym (le-ltb m.now.0 (r.0 + drifted c (2 * t)) h))
-      go (Q.Until d) never h = absurd h
-      go (Q.Until d) (since r c) h = rw (i.same-now, h.0)
+      go : (q : Option Reading) (k : QuietStart) → QuietOk t m.now q k → is_quiet m.now q ≡ quiet_since t j.now k
+      go None never h = refl
+      go None (since r c) h = rw i.same-now (sym (le-ltb m.now.0 (r.0 + drifted c (2 * t)) h))
+      go (Some d) never h = absurd h
+      go (Some d) (since r c) h = rw (i.same-now, h.0)
 
   row-at : (p : ℕ) → p < n → RowInv t m.now (row_at m.peers p) (open_lines p j.log) (last_held p j.log)
   row-at p h = i.rows p (let x = i.limits.few in omega arith)
@@ -290,10 +280,10 @@ module _ (m : Manager) (j : Journal) (i : Inv m j) where
   quiet-valid : quiet_valid m.now m.quiet_timer ≡ true
   quiet-valid = go m.quiet_timer j.quiet i.quiet_ok
     where
-      go : (q : QuietTimer) (k : QuietStart) → QuietOk t m.now q k → quiet_valid m.now q ≡ true
-      go Q.None k h = refl
-      go (Q.Until d) never h = absurd h
-      go (Q.Until d) (since r c) h = deadline-valid m.now d h.1 (omega arith)
+      go : (q : Option Reading) (k : QuietStart) → QuietOk t m.now q k → quiet_valid m.now q ≡ true
+      go None k h = refl
+      go (Some d) never h = absurd h
+      go (Some d) (since r c) h = deadline-valid m.now d h.1 (omega arith)
 
   row-valid-at : (p : ℕ) → p < 64 → row_valid_at m.me n m.now p (row_at m.peers p) ≡ true
   unfolding row_valid_at row_empty
@@ -328,14 +318,14 @@ module _ (m : Manager) (j : Journal) (i : Inv m j) where
 
 -- ---- set-up
 
-fresh-inv : (me n t hb : ℕ) (now : Reading) → setup_refusal me n t hb now ≡ 0 → Inv (fresh me n t now) (journal_at now)
+fresh-inv : (me n t hb : ℕ) (now : Reading) → setup_refusal me n t hb now ≡ Ok tt → Inv (fresh me n t now) (journal_at now)
 unfolding fresh
 fresh-inv me n t hb now a =
-    let a1 = valid (timeout_valid t) 0 _ a in
-    let a2 = passed (leb t (2 * hb)) 1 _ a1.1 in
-    let a3 = valid (population_valid n) 2 _ a2.1 in
-    let a4 = valid (own_valid me n) 3 _ a3.1 in
-    let a5 = valid (reading_valid now) 4 0 a4.1 in
+    let a1 = valid (timeout_valid t) R.TimeoutOutOfRange _ a in
+    let a2 = passed (leb t (2 * hb)) R.HeartbeatTooSlow _ a1.1 in
+    let a3 = valid (population_valid n) R.PopulationOutOfRange _ a2.1 in
+    let a4 = valid (own_valid me n) R.OwnNotBelowPopulation _ a3.1 in
+    let a5 = valid (reading_valid now) R.ReadingTooHigh (Ok tt) a4.1 in
     let ts = both-limits 100000000 t 10000000000 a1.0 in
     let ns = both-limits 1 n capacity a3.0 in
     record {
@@ -359,16 +349,17 @@ fresh-inv me n t hb now a =
     }
 
 -- an accepted set-up passed its tests, and gives the fresh record
-pub accepted : (me n t hb : ℕ) (now : Reading) → (setup_of me n t hb now).outcome ≡ Done → (setup_refusal me n t hb now ≡ 0) × ((setup_of me n t hb now).manager ≡ fresh me n t now)
+pub accepted : (me n t hb : ℕ) (now : Reading) → (setup_of me n t hb now).outcome ≡ (Ok tt) → (setup_refusal me n t hb now ≡ Ok tt) × ((setup_of me n t hb now).manager ≡ fresh me n t now)
 unfolding setup_of
-accepted me n t hb now h = go (eqb (setup_refusal me n t hb now) 0) refl h
+accepted me n t hb now h = go (setup_refusal me n t hb now) refl h
   where
-    both_ways : Bool → SetUpAnswer
-    both_ways b = cond b (record { outcome = Done; manager = fresh me n t now }) (record { outcome = Refused (setup_refusal me n t hb now); manager = fresh 0 0 0 (record { 0 = 0 }) })
+    both_ways : Result (Unit {0}) Refusal → Answered (Unit {0})
+    both_ways z = unless z (λ k. record { outcome = Err k; manager = fresh 0 0 0 (record { 0 = 0 }) }) (record { outcome = Ok tt; manager = fresh me n t now })
 
-    go : (b : Bool) → eqb (setup_refusal me n t hb now) 0 ≡ b → (both_ways b).outcome ≡ Done → (setup_refusal me n t hb now ≡ 0) × ((both_ways b).manager ≡ fresh me n t now)
-    go true e h = (eqb-true (setup_refusal me n t hb now) 0 e, refl)
-    go false e h = absurd (let z : ◌≡◌ {A = ℕ} 0 1 = cc in omega arith)
+    go : (z : Result (Unit {0}) Refusal) → setup_refusal me n t hb now ≡ z → (both_ways z).outcome ≡ Ok tt
+        → (setup_refusal me n t hb now ≡ Ok tt) × ((both_ways z).manager ≡ fresh me n t now)
+    go (Ok x) e h = (e, refl)
+    go (Err k) e h = absurd (let z : ◌≡◌ {A = ℕ} 0 1 = cc in omega arith)
 
 -- ---- DEMAND 3, of the rules
 

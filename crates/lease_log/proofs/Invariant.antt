@@ -1,4 +1,5 @@
 -- The invariant of the rules' record beside the journal, and that every accepted call keeps it. Assumes nothing: the laws of drift are the drift crate's.
+use Rattle.std.specs.Prelude.{Option, None, Some, ℤ, Float, Ok}
 use mathlib.Core.Path.{◌≡◌, refl, ap, sym, subst, ◌∙◌}
 use mathlib.Core.Logic.{◌≢◌}
 use mathlib.Core.List.{List, [], ◌∷◌, ◌++◌, append_assoc, append-nil}
@@ -10,6 +11,7 @@ use lib.Dec.{T, ltb, eqb}
 use lib.ListN.{length, set, length-set}
 use lib.Seq.{get_or-set_same, get_or-set_other}
 use borrow.Author.Tests.{eqb-false, ne_eqb, lt-ltb, le-ltb}
+use Rattle.lease.specs.declared.Bar.{Bar}
 use Rattle.bitmap.specs.declared.Bitmap.{Bitmap}
 use Rattle.bitmap.specs.Sets.{one}
 use Rattle.drift.specs.declared.Clock.{Clock}
@@ -18,11 +20,7 @@ use Rattle.drift.specs.Claims.{longest_in_use}
 use Rattle.drift.proofs.Laws.{clock-at-most, clock-above-zero, setting-found}
 use Rattle.timer.specs.declared.Reading.{Reading}
 use Rattle.timer.specs.Timers.{max_reading, drifted}
-use Rattle.lease.specs.declared.QuietTimer.{QuietTimer}
-use Rattle.lease.specs.declared.QuietTimer.TheVariants as Q
 use Rattle.lease.specs.declared.Peer.{Peer}
-use Rattle.lease.specs.declared.PeerSet.{PeerSet}
-use Rattle.lease.specs.declared.AcceptBar.{AcceptBar}
 use Rattle.lease.specs.declared.LeaseNum.{LeaseNum}
 use Rattle.lease.specs.declared.LeaseMsg.{LeaseMsg}
 use Rattle.lease.specs.declared.LeaseAction.{LeaseAction}
@@ -31,15 +29,13 @@ use Rattle.lease.specs.declared.PeerNotice.{PeerNotice}
 use Rattle.lease.specs.declared.Handled.{Handled}
 use Rattle.lease.specs.declared.Line.{Line}
 use Rattle.lease.specs.declared.Manager.{Manager}
-use Rattle.lease.specs.declared.Pass.{Pass}
-use Rattle.lease.specs.declared.DriftSetting.{DriftSetting}
+use Rattle.lease.specs.Pass.{Pass}
 use Rattle.lease.specs.declared.LeaseMsg.TheVariants as M
 use Rattle.lease.specs.declared.LeaseAction.TheVariants as A
 use Rattle.lease.specs.declared.LeaseNotice.TheVariants as N
 use Rattle.lease.specs.declared.PeerNotice.TheVariants as PN
 use Rattle.lease.specs.declared.Actions.TheVariants as AS
-use Rattle.lease.specs.declared.Pass.TheVariants as P
-use Rattle.lease.specs.declared.DriftSetting.TheVariants as D
+use Rattle.lease.specs.Pass as P
 use Rattle.lease.proofs.Tables.{below-done, below_rest, length-below}
 use Rattle.lease.specs.Rows.{row_at, empty_row}
 use Rattle.lease.specs.Passes.{named, pass_row, row_after, pass_over}
@@ -57,9 +53,9 @@ use Rattle.lease_log.proofs.Base as Base
 
 -- ---- what is needed of drift: a setting's clock is one that the record check takes
 
-setting-valid : (x : DriftSetting) → Typed (drift x) → is_settable (clock_of x) ≡ true
-setting-valid D.True f = refl
-setting-valid (D.Drifting d) f = setting-found d f
+setting-valid : (x : Option ℤ) → Typed (drift x) → is_settable (clock_of x) ≡ true
+setting-valid None f = refl
+setting-valid (Some d) f = setting-found d f
 
 above_zero : (c : Clock) (d : ℕ) → is_settable c ≡ true → 100000000 ≤ d → d ≤ longest_in_use → 0 < drifted c d
 above_zero c d k lo hi = clock-above-zero c (subst T (sym k) tt) d (omega arith) hi
@@ -81,11 +77,11 @@ pub record Limits (t n me : ℕ) (now : Reading) : Type 0 where
   pub reading : now.0 ≤ max_reading
 
 -- the quiet timer, against the last quiet start
-abbrev pub QuietOk : ℕ → Reading → QuietTimer → QuietStart → Type 0
-QuietOk t now Q.None never = Unit {0}
-QuietOk t now Q.None (since r c) = r.0 + drifted c (2 * t) ≤ now.0
-QuietOk t now (Q.Until d) never = ⊥
-QuietOk t now (Q.Until d) (since r c) = (d.0 ≡ r.0 + drifted c (2 * t)) × (now.0 < d.0) × (d.0 ≤ now.0 + 2000000000000)
+abbrev pub QuietOk : ℕ → Reading → Option Reading → QuietStart → Type 0
+QuietOk t now None never = Unit {0}
+QuietOk t now None (since r c) = r.0 + drifted c (2 * t) ≤ now.0
+QuietOk t now (Some d) never = ⊥
+QuietOk t now (Some d) (since r c) = (d.0 ≡ r.0 + drifted c (2 * t)) × (now.0 < d.0) × (d.0 ≤ now.0 + 2000000000000)
 
 pub record Inv (m : Manager) (j : Journal) : Type 0 where
   pub sized : length m.peers ≡ 64
@@ -203,11 +199,11 @@ module _ (m : Manager) (j : Journal) (i : Inv m j) where
   abbrev Handles : LeaseNotice → Type 0
   Handles x = Inv (handle_notice m x).manager (longer j (stamped m.now m.clock (lines_under m.active_num (actions_of (handle_notice m x).actions))))
 
-  new-grants-inv : (to : PeerSet) (bar : AcceptBar) → Handles (N.NewGrants to bar)
+  new-grants-inv : (to : Option Bitmap) (bar : Option Bar) → Handles (N.NewGrants to bar)
   unfolding handle_notice handle_new_grants
   new-grants-inv to bar = passed-bcast (P.NewGrants to) (pass_on m (P.NewGrants to)).first (M.Guard bar) (λ p h. new-grants-row t m.now (named to p) (R p) (O p) (H p) (i.rows p h))
 
-  do-revoke-inv : (to : PeerSet) → Handles (N.DoRevoke to)
+  do-revoke-inv : (to : Option Bitmap) → Handles (N.DoRevoke to)
   unfolding handle_notice handle_do_revoke
   do-revoke-inv to = go (eqb (pass_on m (P.DoRevoke to)).first.bits 0)
     where
@@ -243,14 +239,14 @@ module _ (m : Manager) (j : Journal) (i : Inv m j) where
 
   -- ---- about one peer
 
-  pub peer-of : (q : ℕ) → peer_refusal m.population m.me q ≡ 0 → (q < m.population) × (q ≢ m.me)
+  pub peer-of : (q : ℕ) → peer_refusal m.population m.me q ≡ Ok tt → (q < m.population) × (q ≢ m.me)
   peer-of q a = (peer-below m.population m.me q a, eqb-false q m.me (peer-other m.population m.me q a))
 
   -- an id that is no peer is not q
   no-peer-other : (p q : ℕ) → q < m.population → q ≢ m.me → is_peer m.population m.me p ≡ false → p ≢ q
   no-peer-other p q l n a k = clash (is_peer m.population m.me p) (rw (k, lt-ltb q m.population l, ne_eqb q m.me n)) a
 
-  peer-inv : (q : ℕ) (w : PeerNotice) → peer_refusal m.population m.me q ≡ 0
+  peer-inv : (q : ℕ) (w : PeerNotice) → peer_refusal m.population m.me q ≡ Ok tt
       → Inv (on_peer m q w).manager (longer j (stamped m.now m.clock (lines_under m.active_num (actions_of (on_peer m q w).actions))))
   unfolding on_peer
   peer-inv q w a =
@@ -297,7 +293,7 @@ module _ (m : Manager) (j : Journal) (i : Inv m j) where
           (open-append p j.log ys ∙ rw (ended-other m.active_num m.now m.clock q p k ds about, open-other m.active_num m.now m.clock q p k ds about) (omega arith))
           (last-here p ∙ last-other m.active_num m.now m.clock q p k ds about (H p)) (i.rows p h)
 
-  pub handle-notice-inv : (x : LeaseNotice) → notice_refusal m.population m.me x ≡ 0 → Handles x
+  pub handle-notice-inv : (x : LeaseNotice) → notice_refusal m.population m.me x ≡ Ok tt → Handles x
   unfolding handle_notice
   handle-notice-inv (N.NewGrants to bar) a = new-grants-inv to bar
   handle-notice-inv (N.DoRevoke to) a = do-revoke-inv to
@@ -359,7 +355,7 @@ module _ (m : Manager) (j : Journal) (i : Inv m j) where
       skipped : (p : ℕ) → held_by p (top_of 0 j.log) (log-line num (A.SendLeaseMsg q (M.RevokeReply false)) m.now m.clock) (H p) ≡ H p
       skipped p = rw (i.top, lt-ltb num.0 m.active_num.0 l)
 
-  outdated-inv : (num : LeaseNum) (x : LeaseNotice) → num.0 < m.active_num.0 → notice_refusal m.population m.me x ≡ 0
+  outdated-inv : (num : LeaseNum) (x : LeaseNotice) → num.0 < m.active_num.0 → notice_refusal m.population m.me x ≡ Ok tt
       → Inv m (longer j (stamped m.now m.clock (lines_under num (actions_of (outdated x)))))
   outdated-inv num (N.NewGrants to bar) l a = silent i
   outdated-inv num (N.DoRevoke to) l a = silent i
@@ -379,7 +375,7 @@ raised-refusal : (m : Manager) (num : LeaseNum) (x : LeaseNotice) → notice_ref
 unfolding raised_to
 raised-refusal m num x = refl
 
-pub notice-inv : (m : Manager) (j : Journal) → Inv m j → (num : LeaseNum) (x : LeaseNotice) → notice_refusal m.population m.me x ≡ 0
+pub notice-inv : (m : Manager) (j : Journal) → Inv m j → (num : LeaseNum) (x : LeaseNotice) → notice_refusal m.population m.me x ≡ Ok tt
     → Inv (accepted_of m num x).manager (longer j (stamped m.now m.clock (lines_of (accepted_of m num x).lines)))
 unfolding accepted_of raised_to
 notice-inv m j i num x a = go (belowb num.0 m.active_num.0) (belowb m.active_num.0 num.0)
@@ -410,13 +406,13 @@ notice-inv m j i num x a = go (belowb num.0 m.active_num.0) (belowb m.active_num
 
 -- ---- the outer calls
 
-quiet-moves : (t : ℕ) (now next : Reading) (q : QuietTimer) (k : QuietStart) → now.0 ≤ next.0 → QuietOk t now q k → QuietOk t next (quiet_at next q) k
-quiet-moves t now next Q.None never l h = tt
-quiet-moves t now next Q.None (since r c) l h = omega arith
-quiet-moves t now next (Q.Until d) never l h = absurd h
-quiet-moves t now next (Q.Until d) (since r c) l h = go (lebb d.0 next.0)
+quiet-moves : (t : ℕ) (now next : Reading) (q : Option Reading) (k : QuietStart) → now.0 ≤ next.0 → QuietOk t now q k → QuietOk t next (quiet_at next q) k
+quiet-moves t now next None never l h = tt
+quiet-moves t now next None (since r c) l h = omega arith
+quiet-moves t now next (Some d) never l h = absurd h
+quiet-moves t now next (Some d) (since r c) l h = go (lebb d.0 next.0)
   where
-    go : AtMost d.0 next.0 → QuietOk t next (quiet_at next (Q.Until d)) (since r c)
+    go : AtMost d.0 next.0 → QuietOk t next (quiet_at next (Some d)) (since r c)
     go (at_most q k) = rw q (omega arith)
     go (Base.beyond q k) = rw q (omega arith)
 
@@ -458,7 +454,7 @@ quiet-inv m j i = record {
   others-empty = i.others-empty;
 }
 
-pub drift-inv : (m : Manager) (j : Journal) → Inv m j → (x : DriftSetting) → Typed (drift x) → Inv (set_drift m x) (record { now = j.now; clock = clock_of x; quiet = j.quiet; log = j.log })
+pub drift-inv : (m : Manager) (j : Journal) → Inv m j → (x : Option ℤ) → Typed (drift x) → Inv (set_drift m x) (record { now = j.now; clock = clock_of x; quiet = j.quiet; log = j.log })
 unfolding set_drift
 drift-inv m j i x f = record {
   sized = i.sized;
@@ -473,7 +469,7 @@ drift-inv m j i x f = record {
   others-empty = i.others-empty;
 }
 
-pub refresh-inv : (m : Manager) (j : Journal) → Inv m j → (set : PeerSet) → Inv (attempt_refresh m set).manager j
+pub refresh-inv : (m : Manager) (j : Journal) → Inv m j → (set : Option Bitmap) → Inv (attempt_refresh m set).manager j
 unfolding attempt_refresh
 refresh-inv m j i set =
     passed-silent m j i (refresh_pass m set)

@@ -1,7 +1,7 @@
 -- A manager whose calls leave the record that the rules leave meets demand 3: the record that it has come to is the rules' own. Assumes
 -- nothing.
 use mathlib.Core.Path.{◌≡◌, refl, ap, sym, ◌∙◌}
-use mathlib.Core.List.{List, [], ◌∷◌}
+use mathlib.Core.List.{List}
 use Rattle.lease.specs.declared.Manager.{Manager}
 use Rattle.lease.specs.Rules.{grant_set_of, lease_set_of, lease_cnt_of}
 use Rattle.lease.specs.Verdicts.{Call, Verdict, refused, done, verdict}

@@ -1,17 +1,13 @@
 -- DEMAND 3 of the rules, the statement: after any list of calls from an accepted set-up, refused ones and questions included, the log
 -- decides the grant set, the lease set and the count. Definitions only; proved in proofs/Demand3.
-use Rattle.std.specs.Prelude.{◌≡◌, List, [], ◌∷◌, true, not, cond, ℕ, ◌+◌, eqb}
+use Rattle.std.specs.Prelude.{◌≡◌, List, [], ◌∷◌, true, not, cond, ℕ, ◌+◌, eqb, None, Some, Ok}
 use Rattle.std.specs.Int.{w8}
 use Rattle.std.proofs.Common.{SFits}
 use Rattle.bitmap.specs.declared.Bitmap.{Bitmap}
 use Rattle.bitmap.specs.Bitmaps.{bitmap_where}
 use Rattle.bitmap.specs.Sets.{count_where}
 use Rattle.timer.specs.declared.Reading.{Reading}
-use Rattle.lease.specs.declared.DriftSetting.TheVariants as D
 use Rattle.lease.specs.declared.Manager.{Manager}
-use Rattle.lease.specs.declared.SetOutcome.TheVariants as SO
-use Rattle.lease.specs.declared.CountOutcome.TheVariants as CO
-use Rattle.lease.specs.declared.SetUpOutcome.TheVariants.{Done}
 use Rattle.lease.specs.RecordCheck.{record_valid}
 use Rattle.lease.specs.SetUp.{setup_of}
 use Rattle.lease.specs.Rules.{grant_set_of, lease_set_of, lease_cnt_of}
@@ -24,8 +20,8 @@ Typed (notice num x) = Unit {0}
 Typed (advance to) = Unit {0}
 Typed quiet-start = Unit {0}
 Typed (refresh set) = Unit {0}
-Typed (drift D.True) = Unit {0}
-Typed (drift (D.Drifting d)) = SFits w8 d
+Typed (drift None) = Unit {0}
+Typed (drift (Some d)) = SFits w8 d
 Typed grant-set = Unit {0}
 Typed lease-set = Unit {0}
 Typed lease-cnt = Unit {0}
@@ -51,10 +47,10 @@ Balanced n j = promise_lines j.log ≡ ended_lines j.log + count_where (is_open 
 
 -- What the log decides of the record m; and no call has led to refusal 15.
 pub record LogDecides (me n t : ℕ) (m : Manager) (j : Journal) : Type 0 where
-  pub grants : grant_set_of m ≡ SO.Ids (grants_by me n t j)
+  pub grants : grant_set_of m ≡ Ok (grants_by me n t j)
   pub promises : Balanced n j
-  pub leases : lease_set_of m ≡ SO.Ids (leases_by n t j)
-  pub count : lease_cnt_of m ≡ CO.Count (lease_count_by n t j)
+  pub leases : lease_set_of m ≡ Ok (leases_by n t j)
+  pub count : lease_cnt_of m ≡ Ok (lease_count_by n t j)
   pub never-15 : record_valid m ≡ true
 
 -- The rules' run over a list of calls, from set-up's own rule.
@@ -63,5 +59,5 @@ run_of me n t heartbeat now calls = run_from (record { manager = (setup_of me n 
 
 abbrev pub Demand3 : Type 0
 Demand3 =
-    (me n t heartbeat : ℕ) (now : Reading) → (setup_of me n t heartbeat now).outcome ≡ Done → (calls : List Call) → AllTyped calls
+    (me n t heartbeat : ℕ) (now : Reading) → (setup_of me n t heartbeat now).outcome ≡ (Ok tt) → (calls : List Call) → AllTyped calls
     → LogDecides me n t (run_of me n t heartbeat now calls).manager (run_of me n t heartbeat now calls).journal

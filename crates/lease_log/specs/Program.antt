@@ -1,14 +1,11 @@
 -- DEMAND 3 of any manager with this record, the statement: over a chain of calls, each on the record that the last one returned or left.
 -- The journal is the rules' own, over the same calls. Definitions only; proved in proofs/Program. What THIS program's calls do is in
 -- crate demand3.
-use Rattle.std.specs.Prelude.{◌≡◌, List, [], ◌∷◌, ℕ}
+use Rattle.std.specs.Prelude.{◌≡◌, List, [], ◌∷◌, ℕ, Result, Ok}
+use Rattle.lease.specs.declared.Refusal.{Refusal}
+use Rattle.bitmap.specs.declared.Bitmap.{Bitmap}
 use Rattle.timer.specs.declared.Reading.{Reading}
 use Rattle.lease.specs.declared.Manager.{Manager}
-use Rattle.lease.specs.declared.SetOutcome.{SetOutcome}
-use Rattle.lease.specs.declared.SetOutcome.TheVariants as SO
-use Rattle.lease.specs.declared.CountOutcome.{CountOutcome}
-use Rattle.lease.specs.declared.CountOutcome.TheVariants as CO
-use Rattle.lease.specs.declared.SetUpOutcome.TheVariants.{Done}
 use Rattle.lease.specs.SetUp.{setup_of}
 use Rattle.lease.specs.Rules.{grant_set_of, lease_set_of, lease_cnt_of}
 use Rattle.lease.specs.Verdicts.{Call, Verdict, refused, done, verdict}
@@ -21,18 +18,18 @@ pub data Chain (S : Manager → Call → Manager → Type 0) : Manager → List 
   step : {m m₁ m₂ : Manager} {c : Call} {cs : List Call} → S m c m₁ → Chain S m₁ cs m₂ → Chain S m (c ∷ cs) m₂
 
 -- What the answers g, l and k to grant set, lease set and lease count have to be.
-pub record Answers (me n t : ℕ) (j : Journal) (g l : SetOutcome) (k : CountOutcome) : Type 0 where
-  pub grants : g ≡ SO.Ids (grants_by me n t j)
+pub record Answers (me n t : ℕ) (j : Journal) (g l : Result Bitmap Refusal) (k : Result ℕ Refusal) : Type 0 where
+  pub grants : g ≡ Ok (grants_by me n t j)
   pub promises : Balanced n j
-  pub leases : l ≡ SO.Ids (leases_by n t j)
-  pub count : k ≡ CO.Count (lease_count_by n t j)
+  pub leases : l ≡ Ok (leases_by n t j)
+  pub count : k ≡ Ok (lease_count_by n t j)
 
 -- DEMAND 3 OF ANY MANAGER with this record: its calls lead by S from m₀ on, and G, L and K say what it answers to grant set, lease set
 -- and lease count.
-abbrev pub Demand3For : (Manager → Call → Manager → Type 0) → (Manager → SetOutcome → Type 0) → (Manager → SetOutcome → Type 0) → (Manager → CountOutcome → Type 0)
+abbrev pub Demand3For : (Manager → Call → Manager → Type 0) → (Manager → Result Bitmap Refusal → Type 0) → (Manager → Result Bitmap Refusal → Type 0) → (Manager → Result ℕ Refusal → Type 0)
     → (me n t heartbeat : ℕ) → Reading → Manager → Type 0
 Demand3For S G L K me n t heartbeat now m₀ =
-    (calls : List Call) → AllTyped calls → (m : Manager) → Chain S m₀ calls m → (g l : SetOutcome) (k : CountOutcome) → G m g → L m l → K m k
+    (calls : List Call) → AllTyped calls → (m : Manager) → Chain S m₀ calls m → (g l : Result Bitmap Refusal) (k : Result ℕ Refusal) → G m g → L m l → K m k
     → Answers me n t (run_of me n t heartbeat now calls).journal g l k
 
 -- ---- one that does as the rules say
@@ -46,17 +43,17 @@ abbrev pub Ruled : Manager → Call → Manager → Type 0
 Ruled m c m' = m' ≡ left_by m (verdict m c)
 
 -- What it answers.
-abbrev pub GrantSet : Manager → SetOutcome → Type 0
+abbrev pub GrantSet : Manager → Result Bitmap Refusal → Type 0
 GrantSet m r = r ≡ grant_set_of m
 
-abbrev pub LeaseSet : Manager → SetOutcome → Type 0
+abbrev pub LeaseSet : Manager → Result Bitmap Refusal → Type 0
 LeaseSet m r = r ≡ lease_set_of m
 
-abbrev pub LeaseCnt : Manager → CountOutcome → Type 0
+abbrev pub LeaseCnt : Manager → Result ℕ Refusal → Type 0
 LeaseCnt m r = r ≡ lease_cnt_of m
 
 -- Such a manager meets demand 3 from every accepted set-up.
 abbrev pub Demand3OfRuled : Type 0
 Demand3OfRuled =
-    (me n t heartbeat : ℕ) (now : Reading) → (setup_of me n t heartbeat now).outcome ≡ Done
+    (me n t heartbeat : ℕ) (now : Reading) → (setup_of me n t heartbeat now).outcome ≡ (Ok tt)
     → Demand3For Ruled GrantSet LeaseSet LeaseCnt me n t heartbeat now (setup_of me n t heartbeat now).manager

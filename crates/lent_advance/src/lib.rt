@@ -7,25 +7,22 @@ ghost use Rattle.std.specs.Prelude.{◌≡◌};
 ghost use Rattle.lease.specs.Rules.{advance_of};
 
 use clock_calls::advance;
-use lease::{AdvanceAnswer, Advanced, Manager};
+use lease::{Advanced, Answered, Manager, Refusal};
 use timer::Reading;
 
 // Advance on a lent record.
-pub fn advance_lent(m: &mut Manager, to: Reading) -> Advanced
-    ensures { (result ≡ (advance_of m.old to).advanced) × (m.new ≡ (advance_of m.old to).manager) }
+pub fn advance_lent(m: &mut Manager, to: Reading) -> Result<Advanced, Refusal>
+    ensures { (result ≡ (advance_of m.old to).outcome) × (m.new ≡ (advance_of m.old to).manager) }
 {
     let answer = advance(*m, to);
     *m = answer.manager;
-    answer.advanced
+    answer.outcome
 }
 
-pub fn advance_lending(m: Manager, to: Reading) -> AdvanceAnswer
+pub fn advance_lending(m: Manager, to: Reading) -> Answered<Advanced>
     ensures { result ≡ advance_of m to }
 {
-    let mut lent = m;
-    let advanced = advance_lent(&mut lent, to);
-    AdvanceAnswer {
-        advanced,
-        manager: lent,
-    }
+    let mut manager = m;
+    let outcome = advance_lent(&mut manager, to);
+    Answered { outcome, manager }
 }

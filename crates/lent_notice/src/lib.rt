@@ -6,11 +6,15 @@
 ghost use Rattle.std.specs.Prelude.{◌≡◌};
 ghost use Rattle.lease.specs.Rules.{notice_of};
 
-use lease::{LeaseNotice, LeaseNum, Manager, NoticeAnswer, NoticeOutcome};
+use lease::{Answered, LeaseNotice, LeaseNum, Lines, Manager, Refusal};
 use leaseman::add_notice;
 
 // A notice on a lent record.
-pub fn add_notice_lent(m: &mut Manager, num: LeaseNum, notice: LeaseNotice) -> NoticeOutcome
+pub fn add_notice_lent(
+    m: &mut Manager,
+    num: LeaseNum,
+    notice: LeaseNotice,
+) -> Result<Lines, Refusal>
     ensures { (result ≡ (notice_of m.old num notice).outcome) × (m.new ≡ (notice_of m.old num notice).manager) }
 {
     let answer = add_notice(*m, num, notice);
@@ -18,13 +22,10 @@ pub fn add_notice_lent(m: &mut Manager, num: LeaseNum, notice: LeaseNotice) -> N
     answer.outcome
 }
 
-pub fn add_notice_lending(m: Manager, num: LeaseNum, notice: LeaseNotice) -> NoticeAnswer
+pub fn add_notice_lending(m: Manager, num: LeaseNum, notice: LeaseNotice) -> Answered<Lines>
     ensures { result ≡ notice_of m num notice }
 {
-    let mut lent = m;
-    let outcome = add_notice_lent(&mut lent, num, notice);
-    NoticeAnswer {
-        outcome,
-        manager: lent,
-    }
+    let mut manager = m;
+    let outcome = add_notice_lent(&mut manager, num, notice);
+    Answered { outcome, manager }
 }

@@ -3,7 +3,7 @@
 #![tactic(auto)]
 
 ghost use Rattle.std.specs.Prelude.{◌≡◌};
-ghost use Rattle.lease.specs.Limits.{within, timeout_valid, population_valid, own_valid, reading_valid};
+ghost use Rattle.lease.specs.Limits.{timeout_valid, population_valid, own_valid, reading_valid};
 
 use bitmap::CAPACITY;
 use lease::ReplicaId;
@@ -14,23 +14,16 @@ const SHORTEST_TIMEOUT: u64 = 100_000_000;
 
 const LONGEST_TIMEOUT: u64 = 10_000_000_000;
 
-// Whether x is from low to high.
-fn is_within(low: u64, x: u64, high: u64) -> bool
-    ensures { result ≡ within low x high }
-{
-    if low <= x { x <= high } else { false }
-}
-
 pub fn is_valid_timeout(t: u64) -> bool
     ensures { result ≡ timeout_valid t }
 {
-    is_within(SHORTEST_TIMEOUT, t, LONGEST_TIMEOUT)
+    (SHORTEST_TIMEOUT..=LONGEST_TIMEOUT).contains(&t)
 }
 
 pub fn is_valid_population(n: usize) -> bool
     ensures { result ≡ population_valid n }
 {
-    is_within(1, n as u64, CAPACITY as u64)
+    (1..=usize::from(CAPACITY)).contains(&n)
 }
 
 pub fn is_valid_own(me: ReplicaId, n: usize) -> bool

@@ -12,15 +12,11 @@ fn reply_outdated_msg(id: ReplicaId, msg: LeaseMsg) -> Actions
     ensures { result ≡ outdated_msg id msg }
 {
     match msg {
-        LeaseMsg::Guard(_) => Actions::None,
-        LeaseMsg::GuardReply => Actions::None,
-        LeaseMsg::Promise => Actions::None,
-        LeaseMsg::PromiseReply(_) => Actions::None,
         LeaseMsg::Revoke => Actions::One(LeaseAction::SendLeaseMsg(
             id,
             LeaseMsg::RevokeReply(false),
         )),
-        LeaseMsg::RevokeReply(_) => Actions::None,
+        _ => Actions::None,
     }
 }
 
@@ -29,12 +25,8 @@ pub fn reply_outdated(notice: LeaseNotice) -> Actions
     ensures { result ≡ outdated notice }
 {
     match notice {
-        LeaseNotice::NewGrants(_, _) => Actions::None,
-        LeaseNotice::DoRevoke(_) => Actions::None,
-        LeaseNotice::ClearHeld => Actions::None,
         LeaseNotice::RecvLeaseMsg(id, msg) => reply_outdated_msg(id, msg),
-        LeaseNotice::GrantTimeout(_) => Actions::None,
-        LeaseNotice::LeaseTimeout(_) => Actions::None,
+        _ => Actions::None,
     }
 }
 
@@ -43,27 +35,12 @@ pub fn number_actions(num: LeaseNum, higher: bool, actions: Actions) -> Lines
     ensures { result ≡ numbered num higher actions }
 {
     let first = Line(num, LeaseAction::HigherNumber);
-    match actions {
-        Actions::None => {
-            if higher {
-                Lines::One(first)
-            } else {
-                Lines::None
-            }
-        }
-        Actions::One(a) => {
-            if higher {
-                Lines::Two(first, Line(num, a))
-            } else {
-                Lines::One(Line(num, a))
-            }
-        }
-        Actions::Two(a, b) => {
-            if higher {
-                Lines::Three(first, Line(num, a), Line(num, b))
-            } else {
-                Lines::Two(Line(num, a), Line(num, b))
-            }
-        }
+    match (higher, actions) {
+        (false, Actions::None) => Lines::None,
+        (false, Actions::One(a)) => Lines::One(Line(num, a)),
+        (false, Actions::Two(a, b)) => Lines::Two(Line(num, a), Line(num, b)),
+        (true, Actions::None) => Lines::One(first),
+        (true, Actions::One(a)) => Lines::Two(first, Line(num, a)),
+        (true, Actions::Two(a, b)) => Lines::Three(first, Line(num, a), Line(num, b)),
     }
 }

@@ -4,71 +4,55 @@
 
 ghost use Rattle.std.specs.Prelude.{◌≡◌, ◌<◌};
 ghost use Rattle.bitmap.specs.Bitmaps.{capacity};
-ghost use Rattle.lease.specs.Calls.{grant_set, lease_set, lease_cnt, left_on, time_left};
-ghost use Rattle.passes.specs.Fits.{ManagerFits};
+ghost use Rattle.lease.specs.Calls.{grant_set, lease_set, lease_cnt, time_left};
 
 use bitmap::Bitmap;
-use lease::{Entry, Manager, Pass, ReplicaId, TimeLeft};
+use lease::{Manager, ReplicaId};
 use passes::pass_over;
 use quiet::is_quiet;
-use timer::Reading;
+use record_check::CheckedManager;
+use rows::in_first;
+use timed_visits::leased_row;
 use timer_readings::left_ms;
+use visits::granted_row;
 
 // All but the own id in quiet time, else the peers with a promise sent.
-pub fn granted_ids(m: Manager) -> Bitmap
-    requires { ManagerFits m }
-    ensures { result ≡ grant_set m }
+#[tactic(auto, unfolding(lease::specs::Calls::grant_set))]
+pub fn granted_ids(checked: CheckedManager) -> Bitmap
+    ensures { result ≡ grant_set checked.manager }
 {
-    let now = m.now;
-    let quiet_timer = m.quiet_timer;
-    let peers = m.peers;
-    let quiet = is_quiet(now, quiet_timer);
-    if quiet {
-        let p = pass_over(Pass::Everyone, m.me, m.population, peers);
-        return p.first;
+    let m = checked.manager;
+    if is_quiet(m.now, m.quiet_timer) {
+        pass_over(|_, row| in_first(true, row), m.me, m.population, m.peers).first
+    } else {
+        pass_over(|_, row| granted_row(row), m.me, m.population, m.peers).first
     }
-    let p = pass_over(Pass::Granted, m.me, m.population, peers);
-    p.first
 }
 
 // The peers whose held promises are active.
-pub fn leased_ids(m: Manager) -> Bitmap
-    requires { ManagerFits m }
-    ensures { result ≡ lease_set m }
+#[tactic(auto, unfolding(lease::specs::Calls::lease_set))]
+pub fn leased_ids(checked: CheckedManager) -> Bitmap
+    ensures { result ≡ lease_set checked.manager }
 {
-    let now = m.now;
-    let peers = m.peers;
-    let p = pass_over(Pass::Leased(now), m.me, m.population, peers);
-    p.first
+    let m = checked.manager;
+    pass_over(|_, row| leased_row(m.now, row), m.me, m.population, m.peers).first
 }
 
 // How many those are, and this controller.
-pub fn leased_count(m: Manager) -> u64
-    requires { ManagerFits m }
-    ensures { result ≡ lease_cnt m }
+#[tactic(auto, unfolding(lease::specs::Calls::lease_cnt))]
+pub fn leased_count(checked: CheckedManager) -> u64
+    ensures { result ≡ lease_cnt checked.manager }
 {
-    let now = m.now;
-    let peers = m.peers;
-    let p = pass_over(Pass::Leased(now), m.me, m.population, peers);
-    1 + p.count
-}
-
-fn left_on(now: Reading, entry: Entry) -> TimeLeft
-    ensures { result ≡ left_on now entry }
-{
-    match entry {
-        Entry::Absent => TimeLeft::None,
-        Entry::Present(timer) => TimeLeft::Ms(left_ms(now, timer)),
-    }
+    let m = checked.manager;
+    1 + pass_over(|_, row| leased_row(m.now, row), m.me, m.population, m.peers).count
 }
 
 // Time left of the promise held from a peer.
-pub fn left_of(m: Manager, id: ReplicaId) -> TimeLeft
+pub fn left_of(m: Manager, id: ReplicaId) -> Option<u64>
     requires { id < capacity }
     ensures { result ≡ time_left m id }
 {
-    let now = m.now;
-    let row = m.peers[id];
-    let promise = row.promise_held;
-    left_on(now, promise)
+    m.peers[id]
+        .promise_held
+        .map(|promise| left_ms(m.now, promise))
 }

@@ -1,5 +1,6 @@
 -- A notice that no refusal turns down is about a peer below the population, if it is about one. Assumes nothing.
 use Prim.Native.Nat.{ℕ}
+use Rattle.std.specs.Prelude.{Ok}
 use mathlib.Core.Path.{◌≡◌}
 use Rattle.lease.specs.declared.LeaseNotice.{LeaseNotice}
 use Rattle.lease.specs.declared.LeaseNotice.TheVariants as N
@@ -7,7 +8,7 @@ use Rattle.lease.specs.Refusals.{notice_refusal}
 use Rattle.lease.proofs.Judged.{peer-below}
 use Rattle.notices.specs.Fits.{PeerBelow}
 
-pub notice-below : (n me : ℕ) (x : LeaseNotice) → notice_refusal n me x ≡ 0 → PeerBelow n x
+pub notice-below : (n me : ℕ) (x : LeaseNotice) → notice_refusal n me x ≡ Ok tt → PeerBelow n x
 notice-below n me (N.NewGrants set bar) e = tt
 notice-below n me (N.DoRevoke set) e = tt
 notice-below n me N.ClearHeld e = tt

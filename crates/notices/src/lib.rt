@@ -1,75 +1,76 @@
-// A notice that is not refused, on the record by value: the Rust's `handle_notice`, and the number step
+// A notice that is not refused, on a checked record, by value: the Rust's `handle_notice`, and the number step
 // of its `run`.
 #![tactic(auto)]
 
 ghost use Rattle.std.specs.Prelude.{◌≡◌};
-ghost use Rattle.lease.specs.Notices.{handle_notice, raised_to, acted_under, accepted_of};
-ghost use Rattle.passes.specs.Fits.{ManagerFits};
+ghost use Rattle.lease.specs.Notices.{handle_notice, raised_to, accepted_of};
 ghost use Rattle.notices.specs.Fits.{PeerBelow};
 
-use lease::{Accepted, Acted, LeaseNotice, LeaseNum, Manager, Pass, PeerNotice};
+use lease::{Accepted, Acted, LeaseNotice, LeaseNum, Manager, Passed, PeerNotice};
 use lines::{number_actions, reply_outdated};
 use passes::pass_over;
 use peer_notices::on_peer;
+use record_check::CheckedManager;
 use set_notices::{handle_clear_held, handle_do_revoke, handle_new_grants};
+use visits::higher_number_row;
 
 // A notice under the active number.
-fn handle_notice(m: Manager, notice: LeaseNotice) -> Acted
-    requires manager_fits { ManagerFits m }
-    requires peer_below { PeerBelow m.population notice }
-    ensures { result ≡ handle_notice m notice }
+#[tactic(auto, unfolding(lease::specs::Notices::handle_notice))]
+fn handle_notice(checked: CheckedManager, notice: LeaseNotice) -> Acted
+    requires { PeerBelow checked.manager.population notice }
+    ensures { result ≡ handle_notice checked.manager notice }
 {
     match notice {
-        LeaseNotice::NewGrants(set, bar) => handle_new_grants(m, set, bar),
-        LeaseNotice::DoRevoke(set) => handle_do_revoke(m, set),
-        LeaseNotice::ClearHeld => handle_clear_held(m),
-        LeaseNotice::RecvLeaseMsg(id, msg) => on_peer(m, id, PeerNotice::RecvLeaseMsg(msg)),
-        LeaseNotice::GrantTimeout(id) => on_peer(m, id, PeerNotice::GrantTimeout),
-        LeaseNotice::LeaseTimeout(id) => on_peer(m, id, PeerNotice::LeaseTimeout),
+        LeaseNotice::NewGrants(set, bar) => handle_new_grants(checked, set, bar),
+        LeaseNotice::DoRevoke(set) => handle_do_revoke(checked, set),
+        LeaseNotice::ClearHeld => handle_clear_held(checked),
+        LeaseNotice::RecvLeaseMsg(id, msg) => on_peer(checked, id, PeerNotice::RecvLeaseMsg(msg)),
+        LeaseNotice::GrantTimeout(id) => on_peer(checked, id, PeerNotice::GrantTimeout),
+        LeaseNotice::LeaseTimeout(id) => on_peer(checked, id, PeerNotice::LeaseTimeout),
     }
 }
 
 // All four tables emptied, and the number active.
-fn raise(m: Manager, num: LeaseNum) -> Manager
-    requires { ManagerFits m }
-    ensures { result ≡ raised_to m num }
+#[tactic(auto, unfolding(lease::specs::Notices::raised_to))]
+fn raise(checked: CheckedManager, num: LeaseNum) -> CheckedManager
+    ensures { result.manager ≡ raised_to checked.manager num }
 {
-    let peers = m.peers;
-    let p = pass_over(Pass::HigherNumber, m.me, m.population, peers);
-    let after = p.peers;
-    let mut manager = m;
-    manager.active_num = num;
-    manager.peers = after;
-    manager
-}
-
-fn act_under(m: Manager, num: LeaseNum, higher: bool, notice: LeaseNotice) -> Accepted
-    requires manager_fits { ManagerFits m }
-    requires peer_below { PeerBelow m.population notice }
-    ensures { result ≡ acted_under num higher (handle_notice m notice) }
-{
-    let a = handle_notice(m, notice);
-    let actions = a.actions;
-    let manager = a.manager;
-    let lines = number_actions(num, higher, actions);
-    Accepted { lines, manager }
+    let m = checked.manager;
+    let Passed { peers, .. } = pass_over(
+        |_, row| higher_number_row(row),
+        m.me,
+        m.population,
+        m.peers,
+    );
+    let manager = Manager {
+        active_num: num,
+        peers,
+        ..m
+    };
+    CheckedManager { manager }
 }
 
 // The number step: an outdated notice changes nothing, a higher number is raised to first.
-pub fn run(m: Manager, num: LeaseNum, notice: LeaseNotice) -> Accepted
-    requires manager_fits { ManagerFits m }
-    requires peer_below { PeerBelow m.population notice }
-    ensures { result ≡ accepted_of m num notice }
+#[tactic(auto, unfolding(lease::specs::Notices::accepted_of, lease::specs::Notices::raised_to))]
+pub fn run(checked: CheckedManager, num: LeaseNum, notice: LeaseNotice) -> Accepted
+    requires { PeerBelow checked.manager.population notice }
+    ensures { result ≡ accepted_of checked.manager num notice }
 {
-    let active_num = m.active_num;
-    if num.0 < active_num.0 {
-        let actions = reply_outdated(notice);
-        let lines = number_actions(num, false, actions);
-        return Accepted { lines, manager: m };
+    let active_num = checked.manager.active_num;
+    if num < active_num {
+        return Accepted {
+            lines: number_actions(num, false, reply_outdated(notice)),
+            manager: checked.manager,
+        };
     }
-    if active_num.0 < num.0 {
-        let raised = raise(m, num);
-        return act_under(raised, num, true, notice);
+    let higher = active_num < num;
+    let acted = if higher {
+        handle_notice(raise(checked, num), notice)
+    } else {
+        handle_notice(checked, notice)
+    };
+    Accepted {
+        lines: number_actions(num, higher, acted.actions),
+        manager: acted.manager,
     }
-    act_under(m, num, false, notice)
 }

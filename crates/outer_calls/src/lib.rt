@@ -1,51 +1,45 @@
 // `assume_unknown_grants` and `attempt_refresh` on the manager's record, by value. The record is
-// looked at first, then the call's own refusals; a refusal answers its number and the record as it came.
+// looked at first, then the call's own refusals; a refusal answers it and the record as it came.
 // None has a `requires`.
 #![tactic(auto)]
 
-ghost use Rattle.std.specs.Prelude.{◌≡◌};
+ghost use Rattle.std.specs.Prelude.{◌≡◌, Ok, Err};
+ghost use Rattle.lease.specs.RecordCheck.{record_valid};
+ghost use Rattle.lease.specs.Refusals.{refresh_refusal, judged};
+ghost use Rattle.lease.specs.Calls.{attempt_refresh};
 ghost use Rattle.lease.specs.Rules.{quiet_of, refresh_of};
 
-use calls::{refresh, start_quiet};
-use lease::{Manager, PeerSet, PlainAnswer, PlainOutcome, RefreshAnswer, SetOutcome};
-use record_check::is_valid_record;
-use refusals::refresh_refusal;
+use bitmap::Bitmap;
+use calls::{answered, refresh, start_quiet};
+use lease::{Answered, Manager, Refusal};
+use record_check::check_record;
+use refusals::check_refresh;
 
 // Quiet time starts: what was granted before is not known.
-pub fn assume_unknown_grants(m: Manager) -> PlainAnswer
+#[tactic(auto, unfolding(lease::specs::Rules::quiet_of))]
+pub fn assume_unknown_grants(m: Manager) -> Answered<()>
     ensures { result ≡ quiet_of m }
 {
-    let valid = is_valid_record(m);
-    if valid {
-        let manager = start_quiet(m);
-        return PlainAnswer {
-            outcome: PlainOutcome::Done,
-            manager,
-        };
-    }
-    PlainAnswer {
-        outcome: PlainOutcome::Refused(15),
-        manager: m,
-    }
+    let done = check_record(m).map(|checked| Answered {
+        outcome: Ok(()),
+        manager: start_quiet(checked),
+    });
+    answered(m, done)
+}
+
+#[tactic(auto, using(calls::proofs::Laws::near))]
+fn refresh_or_refuse(m: Manager, set: Option<Bitmap>) -> Result<Answered<Bitmap>, Refusal>
+    ensures { result ≡ judged (record_valid m) (refresh_refusal set) (λ k. Err k) (Ok (attempt_refresh m set)) }
+{
+    let checked = check_record(m)?;
+    check_refresh(set)?;
+    Ok(refresh(checked, set))
 }
 
 // Extends the promises to the marked peers that the set has, and answers which.
-pub fn attempt_refresh(m: Manager, set: PeerSet) -> RefreshAnswer
+#[tactic(auto, using(calls::proofs::Answers::answered_judged), unfolding(lease::specs::Rules::refresh_of))]
+pub fn attempt_refresh(m: Manager, set: Option<Bitmap>) -> Answered<Bitmap>
     ensures { result ≡ refresh_of m set }
 {
-    let valid = is_valid_record(m);
-    if valid {
-        let code = refresh_refusal(set);
-        if code == 0 {
-            return refresh(m, set);
-        }
-        return RefreshAnswer {
-            outcome: SetOutcome::Refused(code),
-            manager: m,
-        };
-    }
-    RefreshAnswer {
-        outcome: SetOutcome::Refused(15),
-        manager: m,
-    }
+    answered(m, refresh_or_refuse(m, set))
 }

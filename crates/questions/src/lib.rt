@@ -5,55 +5,42 @@
 ghost use Rattle.std.specs.Prelude.{◌≡◌};
 ghost use Rattle.lease.specs.Rules.{grant_set_of, lease_set_of, lease_cnt_of, time_left_of};
 
-use lease::{CountOutcome, Manager, ReplicaId, SetOutcome, TimeLeftOutcome};
+use bitmap::Bitmap;
+use lease::{Manager, Refusal, ReplicaId};
 use lookups::{granted_ids, leased_count, leased_ids, left_of};
-use record_check::is_valid_record;
-use refusals::peer_refusal;
+use record_check::check_record;
+use refusals::check_peer;
 
 // All but the own id in quiet time, else the peers with a promise sent.
-pub fn grant_set(m: Manager) -> SetOutcome
+#[tactic(auto, unfolding(lease::specs::Rules::grant_set_of))]
+pub fn grant_set(m: Manager) -> Result<Bitmap, Refusal>
     ensures { result ≡ grant_set_of m }
 {
-    let valid = is_valid_record(m);
-    if valid {
-        return SetOutcome::Ids(granted_ids(m));
-    }
-    SetOutcome::Refused(15)
+    Ok(granted_ids(check_record(m)?))
 }
 
 // The peers whose held promises are active.
-pub fn lease_set(m: Manager) -> SetOutcome
+#[tactic(auto, unfolding(lease::specs::Rules::lease_set_of))]
+pub fn lease_set(m: Manager) -> Result<Bitmap, Refusal>
     ensures { result ≡ lease_set_of m }
 {
-    let valid = is_valid_record(m);
-    if valid {
-        return SetOutcome::Ids(leased_ids(m));
-    }
-    SetOutcome::Refused(15)
+    Ok(leased_ids(check_record(m)?))
 }
 
 // One more than the size of the lease set.
-pub fn lease_cnt(m: Manager) -> CountOutcome
+#[tactic(auto, unfolding(lease::specs::Rules::lease_cnt_of))]
+pub fn lease_cnt(m: Manager) -> Result<u64, Refusal>
     ensures { result ≡ lease_cnt_of m }
 {
-    let valid = is_valid_record(m);
-    if valid {
-        return CountOutcome::Count(leased_count(m));
-    }
-    CountOutcome::Refused(15)
+    Ok(leased_count(check_record(m)?))
 }
 
 // Time left of the promise held from a peer (added by document 01).
-pub fn time_left(m: Manager, id: ReplicaId) -> TimeLeftOutcome
+#[tactic(auto, unfolding(lease::specs::Rules::time_left_of))]
+pub fn time_left(m: Manager, id: ReplicaId) -> Result<Option<u64>, Refusal>
     ensures { result ≡ time_left_of m id }
 {
-    let valid = is_valid_record(m);
-    if valid {
-        let code = peer_refusal(m.population, m.me, id);
-        if code == 0 {
-            return TimeLeftOutcome::Left(left_of(m, id));
-        }
-        return TimeLeftOutcome::Refused(code);
-    }
-    TimeLeftOutcome::Refused(15)
+    let checked = check_record(m)?;
+    check_peer(&m, id)?;
+    Ok(left_of(checked.manager, id))
 }

@@ -6,56 +6,35 @@ ghost use Rattle.std.specs.Prelude.{◌≡◌, ◌≤◌, ◌<◌};
 ghost use Rattle.bitmap.specs.Bitmaps.{capacity};
 ghost use Rattle.lease.specs.Calls.{quiet_fires, quiet_at, is_quiet, quiet_end};
 
-use lease::{LeaseAction, LeaseNum, Line, QuietEnd, QuietTimer, ReplicaId};
+use lease::{LeaseAction, LeaseNum, Line, ReplicaId};
 use timer::Reading;
 
 // Whether the quiet timer fires at a reading.
-pub fn quiet_fires(now: Reading, quiet: QuietTimer) -> bool
+pub fn quiet_fires(now: Reading, quiet: Option<Reading>) -> bool
     ensures { result ≡ quiet_fires now quiet }
 {
-    match quiet {
-        QuietTimer::None => false,
-        QuietTimer::Until(deadline) => deadline.0 <= now.0,
-    }
+    quiet.is_some_and(|deadline| deadline <= now)
 }
 
 // The quiet timer at a reading: gone once it fired.
-pub fn quiet_at(now: Reading, quiet: QuietTimer) -> QuietTimer
+pub fn quiet_at(now: Reading, quiet: Option<Reading>) -> Option<Reading>
     ensures { result ≡ quiet_at now quiet }
 {
-    match quiet {
-        QuietTimer::None => QuietTimer::None,
-        QuietTimer::Until(deadline) => {
-            if deadline.0 <= now.0 {
-                QuietTimer::None
-            } else {
-                QuietTimer::Until(deadline)
-            }
-        }
-    }
+    quiet.filter(|deadline| *deadline > now)
 }
 
-pub fn is_quiet(now: Reading, quiet: QuietTimer) -> bool
+pub fn is_quiet(now: Reading, quiet: Option<Reading>) -> bool
     ensures { result ≡ is_quiet now quiet }
 {
-    match quiet {
-        QuietTimer::None => false,
-        QuietTimer::Until(deadline) => now.0 < deadline.0,
-    }
+    quiet.is_some_and(|deadline| now < deadline)
 }
 
 // The quiet-end line: (0, GrantTimeout of (own id + 1) mod population).
-pub fn quiet_end(fired: bool, own: ReplicaId, population: usize) -> QuietEnd
+pub fn quiet_end(fired: bool, own: ReplicaId, population: usize) -> Option<Line>
     requires own_lt_population { own < population }
     requires population_le_capacity { population ≤ capacity }
     ensures { result ≡ quiet_end fired own population }
 {
-    if fired {
-        QuietEnd::Given(Line(
-            LeaseNum(0),
-            LeaseAction::GrantTimeout((own + 1) % population),
-        ))
-    } else {
-        QuietEnd::None
-    }
+    let next = (own + 1) % population;
+    fired.then_some(Line(LeaseNum(0), LeaseAction::GrantTimeout(next)))
 }

@@ -8,8 +8,8 @@ ghost use Rattle.timer.specs.Timers.{max_reading};
 ghost use Rattle.lease.specs.Passes.{refresh_row};
 ghost use Rattle.refresh_visits.specs.Fits.{NearGrant};
 
-use lease::{Grant, Peer, Visit};
-use rows::{both, either, in_first, in_none, with_sent};
+use lease::{Peer, Visit};
+use rows::{in_first, in_none};
 use timer::{Reading, extend};
 use timer_readings::exploded;
 
@@ -21,24 +21,21 @@ pub fn refresh_row(now: Reading, by: u64, named: bool, row: Peer) -> Visit
     requires near_grant { NearGrant now row.promise_sent }
     ensures { result ≡ refresh_row now by named row }
 {
-    let guard = row.guard_sent;
-    let promise = row.promise_sent;
-    let marked = both(named, row.refresh_mark);
-    match promise {
-        Grant::Absent => in_none(row),
-        Grant::Present(timer, revoking) => {
-            if marked {
-                let over = exploded(timer);
-                let stays = either(revoking, over);
-                if stays {
-                    let peer = with_sent(row, guard, Grant::Present(timer, revoking), false);
-                    return in_none(peer);
-                }
-                let after = extend(now, by, timer);
-                let peer = with_sent(row, guard, Grant::Present(after, false), false);
-                return in_first(true, peer);
+    match row.promise_sent {
+        Some((timer, revoking)) if named && row.refresh_mark => {
+            let unmarked = Peer {
+                refresh_mark: false,
+                ..row
+            };
+            if revoking || exploded(timer) {
+                return in_none(unmarked);
             }
-            in_none(row)
+            let extended = Peer {
+                promise_sent: Some((extend(now, by, timer), false)),
+                ..unmarked
+            };
+            in_first(true, extended)
         }
+        _ => in_none(row),
     }
 }

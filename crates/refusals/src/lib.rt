@@ -1,70 +1,71 @@
-// The refusals of the calls on a record besides 15, in document 01's order: 0 where none applies. Every
-// contract says that the result equals a definition of lease/specs/Refusals.
+// The refusals of the calls on a record besides 15, in document 01's order. Every contract says that the result
+// equals a definition of lease/specs/Refusals.
 #![tactic(auto)]
 
 ghost use Rattle.std.specs.Prelude.{◌≡◌};
 ghost use Rattle.lease.specs.Refusals.{peer_refusal, set_refusal, notice_refusal, advance_refusal, refresh_refusal};
 
-use bitmap::bad_size;
-use lease::{LeaseNotice, PeerSet, ReplicaId};
+use bitmap::{Bitmap, bad_size};
+use lease::{LeaseNotice, Manager, Refusal, ReplicaId};
 use limits::is_valid_reading;
 use timer::Reading;
 
-// 7, peer not below population; 8, peer is own id.
-pub fn peer_refusal(population: usize, me: ReplicaId, id: ReplicaId) -> u8
-    ensures { result ≡ peer_refusal population me id }
+// A peer is below the population and not the own id.
+pub fn check_peer(m: &Manager, id: ReplicaId) -> Result<(), Refusal>
+    ensures { result ≡ peer_refusal m.entry.now.population m.entry.now.me id }
 {
-    if population <= id {
-        return 7;
+    if m.population <= id {
+        return Err(Refusal::PeerNotBelowPopulation);
     }
-    if id == me {
-        return 8;
+    if id == m.me {
+        return Err(Refusal::PeerIsOwn);
     }
-    0
+    Ok(())
 }
 
-// 9, the set's size is not the population.
-fn set_refusal(population: usize, set: PeerSet) -> u8
-    ensures { result ≡ set_refusal population set }
+// A set's size is the population.
+fn check_set(m: &Manager, set: Option<Bitmap>) -> Result<(), Refusal>
+    ensures { result ≡ set_refusal m.entry.now.population set }
 {
-    match set {
-        PeerSet::All => 0,
-        PeerSet::Of(b) => { if b.size as usize == population { 0 } else { 9 } }
+    if set.is_none_or(|b| usize::from(b.size) == m.population) {
+        Ok(())
+    } else {
+        Err(Refusal::SetSizeNotPopulation)
     }
 }
 
-pub fn notice_refusal(population: usize, me: ReplicaId, notice: LeaseNotice) -> u8
-    ensures { result ≡ notice_refusal population me notice }
+pub fn check_notice(m: &Manager, notice: LeaseNotice) -> Result<(), Refusal>
+    ensures { result ≡ notice_refusal m.entry.now.population m.entry.now.me notice }
 {
     match notice {
-        LeaseNotice::NewGrants(set, _) => set_refusal(population, set),
-        LeaseNotice::DoRevoke(set) => set_refusal(population, set),
-        LeaseNotice::ClearHeld => 0,
-        LeaseNotice::RecvLeaseMsg(id, _) => peer_refusal(population, me, id),
-        LeaseNotice::GrantTimeout(id) => peer_refusal(population, me, id),
-        LeaseNotice::LeaseTimeout(id) => peer_refusal(population, me, id),
+        LeaseNotice::NewGrants(set, _) | LeaseNotice::DoRevoke(set) => check_set(m, set),
+        LeaseNotice::ClearHeld => Ok(()),
+        LeaseNotice::RecvLeaseMsg(id, _)
+        | LeaseNotice::GrantTimeout(id)
+        | LeaseNotice::LeaseTimeout(id) => check_peer(m, id),
     }
 }
 
-// 5, reading over the maximum; 6, reading below the present one.
-pub fn advance_refusal(now: Reading, to: Reading) -> u8
-    ensures { result ≡ advance_refusal now to }
+// A reading that advance goes to is not over the maximum, and not below the present one.
+pub fn check_advance(m: &Manager, to: Reading) -> Result<(), Refusal>
+    ensures { result ≡ advance_refusal m.entry.now.now to }
 {
     if !is_valid_reading(to) {
-        return 5;
+        return Err(Refusal::ReadingTooHigh);
     }
-    if to.0 < now.0 {
-        return 6;
+    if to < m.now {
+        return Err(Refusal::ReadingBelowPresent);
     }
-    0
+    Ok(())
 }
 
-// 12, the size of a refresh set is not 1 to 64.
-pub fn refresh_refusal(set: PeerSet) -> u8
+// The size of a refresh set is 1 to 64.
+pub fn check_refresh(set: Option<Bitmap>) -> Result<(), Refusal>
     ensures { result ≡ refresh_refusal set }
 {
-    match set {
-        PeerSet::All => 0,
-        PeerSet::Of(b) => { if bad_size(b.size) { 12 } else { 0 } }
+    if set.is_some_and(|b| bad_size(b.size)) {
+        Err(Refusal::SetSizeOutOfRange)
+    } else {
+        Ok(())
     }
 }

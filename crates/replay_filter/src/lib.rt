@@ -5,7 +5,7 @@
 ghost use Rattle.std.specs.Prelude.{◌≤◌, length};
 
 use anyhow::{Context, Result};
-use card_feed::{Replay, blank_replay, feed, finish};
+use card_feed::{Replay, blank_replay};
 use std::io;
 use std::io::{Read, Write};
 
@@ -15,12 +15,12 @@ const CHUNK: usize = 4096;
 // The room that `feed` asks for what a chunk gives.
 const ROOM: usize = 512_910;
 
-// What a turn leaves: whether there may be more to read, whether all that was read was taken, and what is kept.
+// What a turn found: a chunk that was taken, the end of the input, or a chunk that was not taken.
 #[derive(Clone, Copy)]
-struct Moved {
-    more: bool,
-    taken: bool,
-    replay: Replay,
+enum Turn {
+    Taken,
+    AtEnd,
+    NotTaken,
 }
 
 // Writes the first n bytes; says so where it fails.
@@ -30,64 +30,53 @@ fn write_out(out: &[u8], n: usize, to: &mut impl Write) -> Result<()>
     to.write_all(&out[..n]).context("replay: standard output")
 }
 
-// Feeds what was read, and writes what it gives.
-fn pass_on(r: Replay, read: &[u8], out: &mut [u8], to: &mut impl Write) -> Result<Moved> {
-    let fed = feed(r, read, out);
-    let taken = fed.taken;
-    if taken {
-        write_out(out, fed.written, to)?;
-    }
-    Ok(Moved {
-        more: taken,
-        taken,
-        replay: fed.replay,
-    })
-}
-
-// Reads once; says so where it fails.
+// Reads once, feeds what was read, and writes what it gives; says so where it fails.
 fn move_some(
-    r: Replay,
+    replay: &mut Replay,
     from: &mut impl Read,
     out: &mut [u8],
     to: &mut impl Write,
-) -> Result<Moved> {
-    let mut buf = [0u8; CHUNK];
+) -> Result<Turn> {
+    let mut buf = [0; CHUNK];
     let n = from.read(&mut buf).context("replay: standard input")?;
     if n == 0 {
-        return Ok(Moved {
-            more: false,
-            taken: true,
-            replay: r,
-        });
+        return Ok(Turn::AtEnd);
     }
-    pass_on(r, &buf[..n], out, to)
+    match replay.feed(&buf[..n], out) {
+        Some(written) => {
+            write_out(out, written, to)?;
+            Ok(Turn::Taken)
+        }
+        None => Ok(Turn::NotTaken),
+    }
 }
 
-// Reads to the end. A proved loop has to end, and nothing says that the input does: so the turns are counted, up to a
-// number that no run uses up.
-fn move_all(from: &mut impl Read, out: &mut [u8], to: &mut impl Write) -> Result<Moved> {
-    let mut m = Moved {
-        more: true,
-        taken: true,
-        replay: blank_replay(),
-    };
+// Reads to the end, and answers whether all was taken. A proved loop has to end, and nothing says that the input does: so
+// the turns are counted, up to a number that no run uses up.
+fn move_all(
+    replay: &mut Replay,
+    from: &mut impl Read,
+    out: &mut [u8],
+    to: &mut impl Write,
+) -> Result<bool> {
     for _ in 0..u64::MAX {
-        if !m.more {
-            break;
+        match move_some(replay, from, out, to)? {
+            Turn::Taken => {}
+            Turn::AtEnd => return Ok(true),
+            Turn::NotTaken => return Ok(false),
         }
-        m = move_some(m.replay, from, out, to)?;
     }
-    Ok(m)
+    Ok(true)
 }
 
 // The program.
 pub fn run(rt: &(impl Input + Print)) -> Result<()> {
     let mut from = rt.reader();
     let mut to = io::writer(rt);
-    let mut out = [0u8; ROOM];
-    let m = move_all(&mut from, &mut out, &mut to)?;
-    if m.taken {
-        let n = finish(m.replay, &mut out);
+    let mut out = [0; ROOM];
+    let mut replay = blank_replay();
+    if move_all(&mut replay, &mut from, &mut out, &mut to)? {
+        let n = replay.finish(&mut out);
         write_out(&out, n, &mut to)?;
     }
     Ok(())

@@ -14,34 +14,27 @@ use host_cards::CallC;
 use host_flat::flat_record;
 use host_lines::LineC;
 use host_record::{ManagerC, PeerC};
-use lease::FiredTimer;
+use lease::{FiredTimer, FiredTimers};
 use sample_columns::{next_card, write_line};
 use setup::new_and_setup;
 use std::io;
-use std::io::{BufReader, BufWriter, Read, Write};
+use std::io::{BufReader, BufWriter, Write};
 use timer::Reading;
 
 // More calls than the file has.
 const TURNS: u64 = 1_000_000;
 
-// The record between two cards, and whether there was one more.
-#[derive(Clone, Copy)]
-struct Turn {
-    there: bool,
-    manager: ManagerC,
-}
-
 // The sent part of a row's tag.
 fn sent_tag(p: PeerC) -> u64 {
     if p.guard_sent > 0 {
-        return p.guard_sent as u64;
+        return u64::from(p.guard_sent);
     }
-    let promise = p.promise_sent;
-    match promise {
+    let revoking = u64::from(p.revoking % 2);
+    match p.promise_sent {
         0 => 0,
-        1 => 8 + (p.revoking % 2) as u64,
-        2 => 4 + (p.revoking % 2 * 2) as u64,
-        _ => 5 + (p.revoking % 2 * 2) as u64,
+        1 => 8 + revoking,
+        2 => 4 + revoking * 2,
+        _ => 5 + revoking * 2,
     }
 }
 
@@ -72,7 +65,7 @@ fn deadline(guard: u64, promise: u64) -> u64 {
 
 // Writes a row that has anything in it.
 fn write_row(i: usize, p: PeerC, output: &mut impl Write) -> io::Result<()> {
-    let mark = (p.refresh_mark % 2) as u64 * 100;
+    let mark = u64::from(p.refresh_mark % 2) * 100;
     let sent = sent_tag(p) % 10;
     let held = held_tag(p) % 100 * 10;
     let tag = mark + held + sent;
@@ -118,26 +111,19 @@ fn write_record(code: u64, m: ManagerC, output: &mut impl Write) -> io::Result<(
 
 // Writes the answer's lines.
 fn write_lines(a: AnswerC, output: &mut impl Write) -> io::Result<()> {
-    if a.count > 0 {
-        write_line(a.one, output)?;
-    }
-    if a.count > 1 {
-        write_line(a.two, output)?;
-    }
-    if a.count > 2 {
-        write_line(a.three, output)?;
+    for line in [a.one, a.two, a.three].iter().take(a.count as usize) {
+        write_line(*line, output)?;
     }
     Ok(())
 }
 
 // Writes a fired timer.
 fn write_timer(t: FiredTimer, output: &mut impl Write) -> io::Result<()> {
-    let code = if t.held { 15 } else { 14 };
     write_line(
         LineC {
-            code,
+            code: if t.held { 15 } else { 14 },
             number: 0,
-            peer: t.id as u64,
+            peer: u64::from(t.id),
             first: 0,
             second: 0,
         },
@@ -146,8 +132,8 @@ fn write_timer(t: FiredTimer, output: &mut impl Write) -> io::Result<()> {
 }
 
 // Writes the timers that fired, in order.
-fn write_fired(count: usize, timers: [FiredTimer; 128], output: &mut impl Write) -> io::Result<()> {
-    for timer in timers.iter().take(count) {
+fn write_fired(fired: &FiredTimers, output: &mut impl Write) -> io::Result<()> {
+    for timer in fired.timers.iter().take(fired.count) {
         write_timer(*timer, output)?;
     }
     Ok(())
@@ -170,54 +156,30 @@ fn write_refusal(k: u64, output: &mut impl Write) -> io::Result<()> {
 fn run_card(before: ManagerC, c: CallC, output: &mut impl Write) -> io::Result<ManagerC> {
     let called = call(before, c);
     let answer = called.answer;
-    let manager = called.manager;
     if answer.refused > 0 {
         write_refusal(answer.refused, output)?;
     } else {
         write_lines(answer, output)?;
-        let fired = answer.fired;
-        write_fired(fired.count, fired.timers, output)?;
-        write_record(c.code, manager, output)?;
+        write_fired(&answer.fired, output)?;
+        write_record(c.code, called.manager, output)?;
     }
-    Ok(manager)
-}
-
-// One more card, if there is one.
-fn run_turn(before: ManagerC, input: &mut impl Read, output: &mut impl Write) -> io::Result<Turn> {
-    let card = next_card(input)?;
-    if card.there {
-        let manager = run_card(before, card.call, output)?;
-        return Ok(Turn {
-            there: true,
-            manager,
-        });
-    }
-    Ok(Turn {
-        there: false,
-        manager: before,
-    })
+    Ok(called.manager)
 }
 
 // The record of a refused set-up, which no call but set-up takes.
 fn blank() -> ManagerC {
-    let refused = new_and_setup(0, 0, 0, 0, Reading(0));
-    let manager = refused.manager;
-    flat_record(manager)
+    flat_record(new_and_setup(0, 0, 0, 0, Reading(0)).manager)
 }
 
 fn main(rt: HostRuntime) -> io::Result<()> {
     let mut input = BufReader::new(rt.alloc(), rt.reader())?;
     let mut output = BufWriter::new(rt.alloc(), io::writer(&rt))?;
-    let manager = blank();
-    let mut t = Turn {
-        there: true,
-        manager,
-    };
+    let mut manager = blank();
     for _ in 0..TURNS {
-        if !t.there {
+        let Some(card) = next_card(&mut input)? else {
             break;
-        }
-        t = run_turn(t.manager, &mut input, &mut output)?;
+        };
+        manager = run_card(manager, card, &mut output)?;
     }
     output.flush()
 }

@@ -4,39 +4,23 @@
 ghost use Rattle.std.specs.Prelude.{◌≡◌};
 ghost use Rattle.lease.specs.Handlers.{handle_msg_revoke_reply, handle_grant_timeout};
 
-use lease::{Actions, Entry, Grant, Handled, LeaseAction, Peer, ReplicaId};
-use rows::{either, is_unexploded, is_unexploded_grant, with_sent};
-use timer_readings::exploded;
+use lease::{Handled, LeaseAction, Peer, ReplicaId};
+use rows::{is_unexploded, none_sent, promise_timer};
 
 // RevokeReply: guard and promise sent are dropped, whatever was there.
 pub fn handle_msg_revoke_reply(id: ReplicaId, held: bool, row: Peer) -> Handled
     ensures { result ≡ handle_msg_revoke_reply id held row }
 {
-    let peer = with_sent(row, Entry::Absent, Grant::Absent, row.refresh_mark);
-    Handled {
-        peer,
-        actions: Actions::One(LeaseAction::GrantRemoved(id, held)),
-    }
+    Handled::one_action(none_sent(row), LeaseAction::GrantRemoved(id, held))
 }
 
 // GrantTimeout: nothing while a sent timer of the peer is not exploded; otherwise dropped and reported.
 pub fn handle_grant_timeout(id: ReplicaId, row: Peer) -> Handled
     ensures { result ≡ handle_grant_timeout id row }
 {
-    let guard = row.guard_sent;
-    let promise = row.promise_sent;
-    let guard_waits = is_unexploded(guard);
-    let promise_waits = is_unexploded_grant(promise);
-    let waits = either(guard_waits, promise_waits);
-    if waits {
-        return Handled {
-            peer: row,
-            actions: Actions::None,
-        };
+    let promise = promise_timer(row.promise_sent);
+    if is_unexploded(row.guard_sent) || is_unexploded(promise) {
+        return Handled::no_action(row);
     }
-    let peer = with_sent(row, Entry::Absent, Grant::Absent, row.refresh_mark);
-    Handled {
-        peer,
-        actions: Actions::One(LeaseAction::GrantTimeout(id)),
-    }
+    Handled::one_action(none_sent(row), LeaseAction::GrantTimeout(id))
 }

@@ -5,31 +5,20 @@
 ghost use Rattle.std.specs.Prelude.{◌≡◌};
 ghost use Rattle.lease.specs.Handlers.{handle_msg_guard_reply};
 
-use lease::{Actions, Entry, Grant, Handled, LeaseAction, LeaseMsg, Peer, ReplicaId};
-use rows::with_sent;
+use lease::{Handled, LeaseAction, LeaseMsg, Peer, ReplicaId};
 use timer::Timer;
 
 // GuardReply: a sent guard becomes a sent promise.
 pub fn handle_msg_guard_reply(id: ReplicaId, t: Timer, row: Peer) -> Handled
     ensures { result ≡ handle_msg_guard_reply id t row }
 {
-    let guard = row.guard_sent;
-    match guard {
-        Entry::Absent => Handled {
-            peer: row,
-            actions: Actions::None,
-        },
-        Entry::Present(_) => {
-            let peer = with_sent(
-                row,
-                Entry::Absent,
-                Grant::Present(t, false),
-                row.refresh_mark,
-            );
-            Handled {
-                peer,
-                actions: Actions::One(LeaseAction::SendLeaseMsg(id, LeaseMsg::Promise)),
-            }
-        }
+    if row.guard_sent.is_none() {
+        return Handled::no_action(row);
     }
+    let promised = Peer {
+        guard_sent: None,
+        promise_sent: Some((t, false)),
+        ..row
+    };
+    Handled::one_action(promised, LeaseAction::SendLeaseMsg(id, LeaseMsg::Promise))
 }

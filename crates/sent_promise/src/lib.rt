@@ -5,8 +5,7 @@
 ghost use Rattle.std.specs.Prelude.{◌≡◌};
 ghost use Rattle.lease.specs.Handlers.{handle_msg_promise_reply};
 
-use lease::{Actions, Grant, Handled, LeaseAction, Peer, ReplicaId};
-use rows::{either, with_sent};
+use lease::{Handled, LeaseAction, Peer, ReplicaId};
 use timer::Timer;
 use timer_readings::exploded;
 
@@ -15,35 +14,23 @@ use timer_readings::exploded;
 pub fn handle_msg_promise_reply(id: ReplicaId, t: Timer, held: bool, row: Peer) -> Handled
     ensures { result ≡ handle_msg_promise_reply id t held row }
 {
-    let guard = row.guard_sent;
-    let promise = row.promise_sent;
-    match promise {
-        Grant::Absent => Handled {
-            peer: row,
-            actions: Actions::None,
-        },
-        Grant::Present(timer, revoking) => {
-            if held {
-                let over = exploded(timer);
-                let stays = either(revoking, over);
-                if stays {
-                    return Handled {
-                        peer: row,
-                        actions: Actions::None,
-                    };
-                }
-                let peer = with_sent(row, guard, Grant::Present(t, false), true);
-                Handled {
-                    peer,
-                    actions: Actions::One(LeaseAction::NextRefresh(id)),
-                }
-            } else {
-                let peer = with_sent(row, guard, Grant::Absent, row.refresh_mark);
-                Handled {
-                    peer,
-                    actions: Actions::One(LeaseAction::GrantRemoved(id, false)),
-                }
-            }
+    match row.promise_sent {
+        None => Handled::no_action(row),
+        Some(_) if !held => {
+            let removed = Peer {
+                promise_sent: None,
+                ..row
+            };
+            Handled::one_action(removed, LeaseAction::GrantRemoved(id, false))
+        }
+        Some((timer, revoking)) if revoking || exploded(timer) => Handled::no_action(row),
+        Some(_) => {
+            let kicked_off = Peer {
+                promise_sent: Some((t, false)),
+                refresh_mark: true,
+                ..row
+            };
+            Handled::one_action(kicked_off, LeaseAction::NextRefresh(id))
         }
     }
 }

@@ -1,65 +1,56 @@
-// The notices about many peers on the record by value: NewGrants, DoRevoke and ClearHeld.
+// The notices about many peers on a checked record, by value: NewGrants, DoRevoke and ClearHeld.
 #![tactic(auto)]
 
 ghost use Rattle.std.specs.Prelude.{◌≡◌};
 ghost use Rattle.lease.specs.Notices.{handle_new_grants, handle_do_revoke, handle_clear_held};
-ghost use Rattle.passes.specs.Fits.{ManagerFits};
 
-use lease::{AcceptBar, Acted, Actions, LeaseAction, LeaseMsg, Manager, Pass, PeerSet};
-use passes::pass_over;
+use bitmap::Bitmap;
+use lease::{Acted, Actions, Bar, LeaseAction, LeaseMsg, Manager, Passed};
+use passes::{is_named, pass_over};
+use record_check::CheckedManager;
+use visits::{clear_held_row, do_revoke_row, new_grants_row};
 
 // One Guard broadcast to the peers that got a fresh guard, even when there are none.
-pub fn handle_new_grants(m: Manager, set: PeerSet, bar: AcceptBar) -> Acted
-    requires { ManagerFits m }
-    ensures { result ≡ handle_new_grants m set bar }
+#[tactic(auto, unfolding(lease::specs::Notices::handle_new_grants))]
+pub fn handle_new_grants(checked: CheckedManager, set: Option<Bitmap>, bar: Option<Bar>) -> Acted
+    ensures { result ≡ handle_new_grants checked.manager set bar }
 {
-    let peers = m.peers;
-    let p = pass_over(Pass::NewGrants(set), m.me, m.population, peers);
-    let to = p.first;
-    let after = p.peers;
-    let mut manager = m;
-    manager.peers = after;
+    let m = checked.manager;
+    let rule = |i, row| new_grants_row(is_named(set, i), row);
+    let Passed { peers, first, .. } = pass_over(rule, m.me, m.population, m.peers);
     Acted {
-        actions: Actions::One(LeaseAction::BcastLeaseMsgs(to, LeaseMsg::Guard(bar))),
-        manager,
+        actions: Actions::One(LeaseAction::BcastLeaseMsgs(first, LeaseMsg::Guard(bar))),
+        manager: Manager { peers, ..m },
     }
 }
 
 // Revoke is broadcast to the peers whose sent promises are marked, if any.
-pub fn handle_do_revoke(m: Manager, set: PeerSet) -> Acted
-    requires { ManagerFits m }
-    ensures { result ≡ handle_do_revoke m set }
+#[tactic(auto, unfolding(lease::specs::Notices::handle_do_revoke))]
+pub fn handle_do_revoke(checked: CheckedManager, set: Option<Bitmap>) -> Acted
+    ensures { result ≡ handle_do_revoke checked.manager set }
 {
-    let peers = m.peers;
-    let p = pass_over(Pass::DoRevoke(set), m.me, m.population, peers);
-    let to = p.first;
-    let after = p.peers;
-    let mut manager = m;
-    manager.peers = after;
-    if to.bits == 0 {
-        Acted {
-            actions: Actions::None,
-            manager,
-        }
+    let m = checked.manager;
+    let rule = |i, row| do_revoke_row(is_named(set, i), row);
+    let Passed { peers, first, .. } = pass_over(rule, m.me, m.population, m.peers);
+    let actions = if first.bits == 0 {
+        Actions::None
     } else {
-        Acted {
-            actions: Actions::One(LeaseAction::BcastLeaseMsgs(to, LeaseMsg::Revoke)),
-            manager,
-        }
+        Actions::One(LeaseAction::BcastLeaseMsgs(first, LeaseMsg::Revoke))
+    };
+    Acted {
+        actions,
+        manager: Manager { peers, ..m },
     }
 }
 
-pub fn handle_clear_held(m: Manager) -> Acted
-    requires { ManagerFits m }
-    ensures { result ≡ handle_clear_held m }
+#[tactic(auto, unfolding(lease::specs::Notices::handle_clear_held))]
+pub fn handle_clear_held(checked: CheckedManager) -> Acted
+    ensures { result ≡ handle_clear_held checked.manager }
 {
-    let peers = m.peers;
-    let p = pass_over(Pass::ClearHeld, m.me, m.population, peers);
-    let after = p.peers;
-    let mut manager = m;
-    manager.peers = after;
+    let m = checked.manager;
+    let Passed { peers, .. } = pass_over(|_, row| clear_held_row(row), m.me, m.population, m.peers);
     Acted {
         actions: Actions::One(LeaseAction::LeaseCleared),
-        manager,
+        manager: Manager { peers, ..m },
     }
 }

@@ -13,7 +13,7 @@ use std::io;
 use std::io::{BufReader, BufWriter, Read, Write};
 use timer::Reading;
 
-// More lines than the file has.
+// More lines than the file has: a bound, so that the loop ends whatever the file is.
 const TURNS: u64 = 1000;
 
 // The record to go on with, and the lines so far.
@@ -52,28 +52,24 @@ fn call(m: Manager, input: &mut impl Read) -> io::Result<Done> {
 
 // A line: its call on the record of the line before, and whether the answer is right.
 fn run_line(before: Run, input: &mut impl Read, output: &mut impl Write) -> io::Result<Run> {
-    let record = before.manager;
-    let so_far = before.counts;
-    let done = call(record, input)?;
-    let manager = done.manager;
-    let counts = judge(done.answer, so_far, input, output)?;
+    let Done { manager, answer } = call(before.manager, input)?;
+    let counts = judge(answer, before.counts, input, output)?;
     Ok(Run { manager, counts })
 }
 
 fn main(rt: HostRuntime) -> io::Result<()> {
     let mut input = BufReader::new(rt.alloc(), rt.reader())?;
     let mut output = BufWriter::new(rt.alloc(), io::writer(&rt))?;
-    let first = start();
-    let manager = first.manager;
-    let counts = Counts { right: 0, count: 0 };
-    let mut run = Run { manager, counts };
+    let mut run = Run {
+        manager: start().manager,
+        counts: Counts { right: 0, count: 0 },
+    };
     for _ in 0..TURNS {
         if !copy_saying(&mut input, &mut output)? {
             break;
         }
         run = run_line(run, &mut input, &mut output)?;
     }
-    let all = run.counts;
-    write_counts(all, &mut output)?;
+    write_counts(run.counts, &mut output)?;
     output.flush()
 }

@@ -3,88 +3,42 @@
 #![tactic(auto)]
 
 ghost use Rattle.std.specs.Prelude.{◌≡◌};
-ghost use Rattle.lease.specs.Passes.{expired_entry, fires_entry, expired_grant, fires_grant, advance_row, leased_row};
+ghost use Rattle.lease.specs.Passes.{expired_entry, fires_entry, advance_row, leased_row};
 
-use lease::{Entry, Grant, Peer, Visit};
-use rows::{either, in_first, is_active};
-use timer::Reading;
+use lease::{Peer, Visit};
+use rows::{in_first, is_active, promise_timer};
+use timer::{Reading, Timer};
 use timer_readings::expire;
 
-// An entry at a reading, and whether its timer fired.
-#[derive(Clone, Copy)]
-struct ExpiredEntry {
-    entry: Entry,
-    fired: bool,
-}
-
-#[derive(Clone, Copy)]
-struct ExpiredGrant {
-    grant: Grant,
-    fired: bool,
-}
-
-fn expire_entry(now: Reading, entry: Entry) -> ExpiredEntry
-    ensures { (result.entry ≡ expired_entry now entry) × (result.fired ≡ fires_entry now entry) }
+// The entry at a reading.
+fn expired_entry(now: Reading, entry: Option<Timer>) -> Option<Timer>
+    ensures { result ≡ expired_entry now entry }
 {
-    match entry {
-        Entry::Absent => ExpiredEntry {
-            entry: Entry::Absent,
-            fired: false,
-        },
-        Entry::Present(timer) => {
-            let e = expire(now, timer);
-            let after = e.timer;
-            ExpiredEntry {
-                entry: Entry::Present(after),
-                fired: e.fired,
-            }
-        }
-    }
+    entry.map(|timer| expire(now, timer).timer)
 }
 
-fn expire_grant(now: Reading, grant: Grant) -> ExpiredGrant
-    ensures { (result.grant ≡ expired_grant now grant) × (result.fired ≡ fires_grant now grant) }
+// Whether the entry's timer fires at a reading.
+fn fires(now: Reading, entry: Option<Timer>) -> bool
+    ensures { result ≡ fires_entry now entry }
 {
-    match grant {
-        Grant::Absent => ExpiredGrant {
-            grant: Grant::Absent,
-            fired: false,
-        },
-        Grant::Present(timer, revoking) => {
-            let e = expire(now, timer);
-            let after = e.timer;
-            ExpiredGrant {
-                grant: Grant::Present(after, revoking),
-                fired: e.fired,
-            }
-        }
-    }
+    entry.is_some_and(|timer| expire(now, timer).fired)
 }
 
 // Advance: each armed timer with deadline at or below the reading explodes once.
 pub fn advance_row(now: Reading, row: Peer) -> Visit
     ensures { result ≡ advance_row now row }
 {
-    let old_guard_sent = row.guard_sent;
-    let old_promise_sent = row.promise_sent;
-    let old_guard_held = row.guard_held;
-    let old_promise_held = row.promise_held;
-    let a = expire_entry(now, old_guard_sent);
-    let b = expire_grant(now, old_promise_sent);
-    let c = expire_entry(now, old_guard_held);
-    let d = expire_entry(now, old_promise_held);
-    let guard_sent = a.entry;
-    let promise_sent = b.grant;
-    let guard_held = c.entry;
-    let promise_held = d.entry;
-    let first = either(a.fired, b.fired);
-    let second = either(c.fired, d.fired);
+    let promise = promise_timer(row.promise_sent);
+    let first = fires(now, row.guard_sent) || fires(now, promise);
+    let second = fires(now, row.guard_held) || fires(now, row.promise_held);
     let peer = Peer {
-        guard_sent,
-        promise_sent,
-        guard_held,
-        promise_held,
-        refresh_mark: row.refresh_mark,
+        guard_sent: expired_entry(now, row.guard_sent),
+        promise_sent: row
+            .promise_sent
+            .map(|(timer, revoking)| (expire(now, timer).timer, revoking)),
+        guard_held: expired_entry(now, row.guard_held),
+        promise_held: expired_entry(now, row.promise_held),
+        ..row
     };
     Visit {
         peer,
@@ -97,7 +51,5 @@ pub fn advance_row(now: Reading, row: Peer) -> Visit
 pub fn leased_row(now: Reading, row: Peer) -> Visit
     ensures { result ≡ leased_row now row }
 {
-    let promise = row.promise_held;
-    let is = is_active(now, promise);
-    in_first(is, row)
+    in_first(is_active(now, row.promise_held), row)
 }

@@ -14,19 +14,19 @@ use drift_clocks::clock_drifted;
 pub const MAX_READING: u64 = 9_223_372_036_854_775_807;
 
 // A clock reading in ns.
-#[derive(Clone, Copy)]
+#[derive(Clone, Copy, PartialEq, Eq, PartialOrd, Ord)]
 pub struct Reading(pub u64);
 
 // A timer armed with a deadline holds the reading at which it explodes.
-#[derive(Clone, Copy)]
+#[derive(Clone, Copy, PartialEq, Eq)]
 pub enum Timer {
     Unarmed,
     Armed(Reading),
     Exploded,
 }
 
-// What a reading makes of a timer, and whether it fired.
-#[derive(Clone, Copy)]
+// What a reading makes of a timer, and whether it fired: a pair, since every answer has both.
+#[derive(Clone, Copy, PartialEq, Eq)]
 pub struct Expired {
     pub timer: Timer,
     pub fired: bool,
@@ -34,12 +34,12 @@ pub struct Expired {
 
 // A duration in ns as the clock has it. Whatever f64 the clock drifts by, no duration grows beyond
 // 2 ^ 20 s, so that a reading plus a drifted duration fits.
+#[tactic(auto, using(drift::proofs::Laws::clock_le))]
 pub fn drift_of(clock: Clock, ns: u64) -> u64
     ensures drifts { result ≡ drifted clock ns }
     ensures small { result ≤ max ns longest }
 {
-    let d = clock_drifted(clock, ns);
-    d.ns
+    clock_drifted(clock, ns).ns
 }
 
 // A timer set to now + the drifted duration, whatever it was before.
@@ -48,9 +48,7 @@ pub fn kickoff(clock: Clock, now: Reading, ns: u64) -> Timer
     requires ns_le_max_reading { ns ≤ max_reading }
     ensures { result ≡ kicked_off clock now ns }
 {
-    let by = drift_of(clock, ns);
-    let deadline = now.0 + by;
-    Timer::Armed(Reading(deadline))
+    Timer::Armed(Reading(now.0 + drift_of(clock, ns)))
 }
 
 // A timer's deadline put off by a duration that is drifted already: from now on, if it is past or
@@ -64,11 +62,8 @@ pub fn extend(now: Reading, by: u64, timer: Timer) -> Timer
     match timer {
         Timer::Unarmed => Timer::Armed(Reading(now.0 + by)),
         Timer::Armed(deadline) => {
-            if deadline.0 < now.0 {
-                Timer::Armed(Reading(now.0 + by))
-            } else {
-                Timer::Armed(Reading(deadline.0 + by))
-            }
+            let from = deadline.max(now);
+            Timer::Armed(Reading(from.0 + by))
         }
         Timer::Exploded => Timer::Exploded,
     }

@@ -3,9 +3,8 @@
 #![tactic(auto)]
 
 ghost use Rattle.std.specs.Prelude.{◌≡◌};
-ghost use Rattle.lease.specs.RecordCheck.{deadline_valid, unarmed, sent_guard_valid, timer_valid, entry_valid, grant_valid};
+ghost use Rattle.lease.specs.RecordCheck.{deadline_valid, sent_guard_valid, timer_valid, entry_valid, grant_valid};
 
-use lease::{Entry, Grant};
 use timer::{Reading, Timer};
 
 // How far past the reading a deadline may be: 3,000 s.
@@ -15,30 +14,14 @@ const FARTHEST: u64 = 3_000_000_000_000;
 pub fn is_valid_deadline(now: Reading, deadline: Reading) -> bool
     ensures { result ≡ deadline_valid now deadline }
 {
-    if deadline.0 <= now.0 {
-        return false;
-    }
-    deadline.0 - now.0 <= FARTHEST
-}
-
-fn is_unarmed(timer: Timer) -> bool
-    ensures { result ≡ unarmed timer }
-{
-    match timer {
-        Timer::Unarmed => true,
-        Timer::Armed(_) => false,
-        Timer::Exploded => false,
-    }
+    now < deadline && deadline.0 - now.0 <= FARTHEST
 }
 
 // A sent guard is neither armed nor exploded.
-pub fn is_valid_sent_guard(entry: Entry) -> bool
+pub fn is_valid_sent_guard(entry: Option<Timer>) -> bool
     ensures { result ≡ sent_guard_valid entry }
 {
-    match entry {
-        Entry::Absent => true,
-        Entry::Present(timer) => is_unarmed(timer),
-    }
+    entry.is_none_or(|timer| matches!(timer, Timer::Unarmed))
 }
 
 // A timer of another table is not unarmed.
@@ -52,20 +35,14 @@ fn is_valid_timer(now: Reading, timer: Timer) -> bool
     }
 }
 
-pub fn is_valid_entry(now: Reading, entry: Entry) -> bool
+pub fn is_valid_entry(now: Reading, entry: Option<Timer>) -> bool
     ensures { result ≡ entry_valid now entry }
 {
-    match entry {
-        Entry::Absent => true,
-        Entry::Present(timer) => is_valid_timer(now, timer),
-    }
+    entry.is_none_or(|timer| is_valid_timer(now, timer))
 }
 
-pub fn is_valid_grant(now: Reading, grant: Grant) -> bool
+pub fn is_valid_grant(now: Reading, grant: Option<(Timer, bool)>) -> bool
     ensures { result ≡ grant_valid now grant }
 {
-    match grant {
-        Grant::Absent => true,
-        Grant::Present(timer, _) => is_valid_timer(now, timer),
-    }
+    grant.is_none_or(|(timer, _)| is_valid_timer(now, timer))
 }

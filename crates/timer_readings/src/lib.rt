@@ -14,22 +14,14 @@ const NANOS_PER_MILLI: u64 = 1_000_000;
 pub fn active(now: Reading, timer: Timer) -> bool
     ensures { result ≡ is_active now timer }
 {
-    match timer {
-        Timer::Unarmed => false,
-        Timer::Armed(deadline) => now.0 < deadline.0,
-        Timer::Exploded => false,
-    }
+    matches!(timer, Timer::Armed(deadline) if now < deadline)
 }
 
 // Whether the timer has exploded since it was last kicked off.
 pub fn exploded(timer: Timer) -> bool
     ensures { result ≡ is_exploded timer }
 {
-    match timer {
-        Timer::Unarmed => false,
-        Timer::Armed(_) => false,
-        Timer::Exploded => true,
-    }
+    matches!(timer, Timer::Exploded)
 }
 
 // The timer at a reading: it fires if it is armed and its deadline is not above the reading.
@@ -37,24 +29,11 @@ pub fn expire(now: Reading, timer: Timer) -> Expired
     ensures { result ≡ expired_at now timer }
 {
     match timer {
-        Timer::Unarmed => Expired {
-            timer,
-            fired: false,
+        Timer::Armed(deadline) if deadline <= now => Expired {
+            timer: Timer::Exploded,
+            fired: true,
         },
-        Timer::Armed(deadline) => {
-            if deadline.0 <= now.0 {
-                Expired {
-                    timer: Timer::Exploded,
-                    fired: true,
-                }
-            } else {
-                Expired {
-                    timer,
-                    fired: false,
-                }
-            }
-        }
-        Timer::Exploded => Expired {
+        _ => Expired {
             timer,
             fired: false,
         },
@@ -62,19 +41,12 @@ pub fn expire(now: Reading, timer: Timer) -> Expired
 }
 
 // Deadline minus now in whole milliseconds, rounded up: 0 exactly if the timer has run out or has
-// none. A ns is taken off before the division and a ms added after it: a sum before might not fit.
+// none.
 pub fn left_ms(now: Reading, timer: Timer) -> u64
     ensures { result ≡ ms_left now timer }
 {
     match timer {
-        Timer::Unarmed => 0,
-        Timer::Armed(deadline) => {
-            if now.0 < deadline.0 {
-                (deadline.0 - now.0 - 1) / NANOS_PER_MILLI + 1
-            } else {
-                0
-            }
-        }
-        Timer::Exploded => 0,
+        Timer::Armed(deadline) => deadline.0.saturating_sub(now.0).div_ceil(NANOS_PER_MILLI),
+        Timer::Unarmed | Timer::Exploded => 0,
     }
 }

@@ -5,24 +5,20 @@
 ghost use Rattle.std.specs.Prelude.{◌≡◌};
 ghost use Rattle.lease.specs.Passes.{new_grants_row, do_revoke_row, clear_held_row, higher_number_row, granted_row};
 
-use lease::{Entry, Grant, Peer, Visit};
-use rows::{both, in_first, in_none, is_granted, with_held, with_sent};
+use lease::{Peer, Visit};
+use rows::{in_first, in_none, none_held, none_sent};
 use timer::Timer;
 
 // NewGrants: a named peer without a promise sent gets a fresh sent guard, unarmed.
 pub fn new_grants_row(named: bool, row: Peer) -> Visit
     ensures { result ≡ new_grants_row named row }
 {
-    let promise = row.promise_sent;
-    let has_promise = is_granted(promise);
-    if both(named, !has_promise) {
-        let peer = with_sent(
-            row,
-            Entry::Present(Timer::Unarmed),
-            promise,
-            row.refresh_mark,
-        );
-        return in_first(true, peer);
+    if named && row.promise_sent.is_none() {
+        let guarded = Peer {
+            guard_sent: Some(Timer::Unarmed),
+            ..row
+        };
+        return in_first(true, guarded);
     }
     in_none(row)
 }
@@ -31,50 +27,34 @@ pub fn new_grants_row(named: bool, row: Peer) -> Visit
 pub fn do_revoke_row(named: bool, row: Peer) -> Visit
     ensures { result ≡ do_revoke_row named row }
 {
-    let promise = row.promise_sent;
-    if named {
-        match promise {
-            Grant::Absent => {
-                let peer = with_sent(row, Entry::Absent, Grant::Absent, row.refresh_mark);
-                in_none(peer)
-            }
-            Grant::Present(timer, _) => {
-                let peer = with_sent(
-                    row,
-                    Entry::Absent,
-                    Grant::Present(timer, true),
-                    row.refresh_mark,
-                );
-                in_first(true, peer)
-            }
-        }
-    } else {
-        in_none(row)
+    if !named {
+        return in_none(row);
     }
+    let revoked = Peer {
+        guard_sent: None,
+        promise_sent: row.promise_sent.map(|(timer, _)| (timer, true)),
+        ..row
+    };
+    in_first(row.promise_sent.is_some(), revoked)
 }
 
 // ClearHeld: both held tables emptied.
 pub fn clear_held_row(row: Peer) -> Visit
     ensures { result ≡ clear_held_row row }
 {
-    let peer = with_held(row, Entry::Absent, Entry::Absent);
-    in_none(peer)
+    in_none(none_held(row))
 }
 
 // A higher number: all four tables emptied; the mark stays.
 pub fn higher_number_row(row: Peer) -> Visit
     ensures { result ≡ higher_number_row row }
 {
-    let unsent = with_sent(row, Entry::Absent, Grant::Absent, row.refresh_mark);
-    let peer = with_held(unsent, Entry::Absent, Entry::Absent);
-    in_none(peer)
+    in_none(none_held(none_sent(row)))
 }
 
 // `grant_set` outside quiet time: whether the peer has a promise sent.
 pub fn granted_row(row: Peer) -> Visit
     ensures { result ≡ granted_row row }
 {
-    let promise = row.promise_sent;
-    let is = is_granted(promise);
-    in_first(is, row)
+    in_first(row.promise_sent.is_some(), row)
 }

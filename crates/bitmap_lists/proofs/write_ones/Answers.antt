@@ -1,5 +1,5 @@
 -- The loop's invariant: the ones below i are laid over the slice from its start, and `at` is how many they are.
-use Rattle.std.proofs.Common.{rules, Bool, ℕ, ◌+◌, ◌≤◌, ◌∙◌, arith, length}
+use Rattle.std.proofs.Common.{rules, Bool, ℕ, ◌+◌, ◌≤◌, arith, length}
 use Rattle.bitmap.specs.Sets.{one, count_where}
 use Rattle.bitmap.proofs.Sets.{count_where-more}
 use Rattle.bitmap.specs.Bitmaps.{is_one}
@@ -14,24 +14,19 @@ room p i size n h k = omega (arith, count_where-more p i, count_where-mono p (i 
 
 pub write_one-at-requires : goal.write_one-at-requires
 write_one-at-requires c =
-    let l = c.loop-i in
     let a = c.args in
-    record {
-      i_lt_capacity = search rules;
-      i_in_bounds = rw (l.invariant.3, l.invariant.2) (room (is_one a.b) l.i a.b.size (length a.out.now) (omega arith) c.requires.size_in_bounds);
-    }
+    let l = c.loop-i in
+    rw l.invariant.placed (rw l.auto.out (room (is_one a.b) l.i a.b.size (length a.out.now) (omega arith) c.requires))
 
 pub loop-i-preserved : goal.loop-i-preserved
 loop-i-preserved c =
     let w = c.write_one-at in
     let l = c.loop-i in
-    let a = c.args in (
-      search rules,
-      search rules,
-      simp (w.ensures.value, l.invariant.2) (count_where-more (is_one a.b) l.i),
-      w.auto.out ∙ l.invariant.3,
-      simp (w.ensures.out_after, l.invariant.2, l.invariant.4) (laid_more (is_one a.b) l.i a.out.now (room (is_one a.b) l.i a.b.size (length a.out.now) (omega arith) c.requires.size_in_bounds)),
-    )
+    let a = c.args in
+    record {
+      placed = simp (w.ensures.value, l.invariant.placed) (count_where-more (is_one a.b) l.i);
+      laid = simp (w.ensures.out_after, l.invariant.placed, l.invariant.laid) (laid_more (is_one a.b) l.i a.out.now (room (is_one a.b) l.i a.b.size (length a.out.now) (omega arith) c.requires));
+    }
 
 pub loop-i-init : goal.loop-i-init
 unfolding ids_below count_where

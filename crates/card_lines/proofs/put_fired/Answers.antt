@@ -1,26 +1,20 @@
--- What is left of `card_lines::put_fired`.
-use Rattle.std.proofs.Common.{◌∙◌, false, arith}
-use borrow.Author.Rules.{rules}
+-- The next timer's line, behind those of the timers so far.
+use Rattle.std.proofs.Common.{◌≡◌, false, take, arith, length-append, ◌+◌, ◌++◌}
 use Rattle.lease.specs.Fired.{fired_timer}
-use Rattle.card_lines.specs.Lines.{text_of, fired_lines}
-use Rattle.card_lines.proofs.Text.{timer-laid, fired-room}
+use Rattle.card_lines.specs.Lines.{text_of, line_text, fired_lines}
+use Rattle.card_lines.proofs.Text.{laid_behind, fired_next}
 use Rattle.card_lines.proofs.put_fired.Goals as goal
 
-pub loop-k-init : goal.loop-k-init
-unfolding fired_lines text_of
-loop-k-init c = search rules
-
-pub put_timer-end-requires : goal.put_timer-end-requires
-put_timer-end-requires c =
-    let l = c.loop-k in
+pub loop-timer-preserved : goal.loop-timer-preserved
+loop-timer-preserved c =
+    let w = c.put_line-end in
+    let l = c.loop-timer in
     let a = c.args in
-    let room = fired-room a.num a.fired.timers l.k in
-    search rules
-
-pub loop-k-preserved : goal.loop-k-preserved
-loop-k-preserved c =
-    let w = c.put_timer-end in
-    let l = c.loop-k in
-    let a = c.args in
-    let more = timer-laid a.out.now l.out w.new.out a.at l.end w.result a.num a.fired.timers l.k (fired_timer false 0) (omega arith) l.invariant.2 (w.ensures.value, w.ensures.out_after) in
-    (omega arith, w.auto.out ∙ l.invariant.1, more)
+    let ts = take c.min.result a.fired.timers in
+    let before = text_of (fired_lines a.num (take l.timer-index ts)) in
+    let next = line_text c.fired_line.result in
+    let more : text_of (fired_lines a.num (take (l.timer-index + 1) ts)) ≡ before ++ next = rw c.fired_line.ensures (fired_next a.num ts l.timer-index (fired_timer false 0) c.loop-timer-test.true) in
+    rw more (
+      omega (arith, l.invariant.0, w.ensures.value, length-append before next),
+      laid_behind before next a.out.now l.out w.new.out l.end l.invariant.0 l.invariant.1 w.ensures.out_after,
+    )

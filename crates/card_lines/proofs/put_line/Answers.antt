@@ -1,11 +1,7 @@
--- What is left of `card_lines::put_line`.
-use Rattle.card_lines.proofs.Text.{length-line, line-laid}
+-- The room and the line are of one length.
+use Rattle.std.proofs.Common.{◌∙◌, sym, ap, length, length-take-le}
+use Rattle.card_lines.proofs.Text.{length_line}
 use Rattle.card_lines.proofs.put_line.Goals as goal
 
-pub returns-clause-value : goal.returns-clause-value
-returns-clause-value c = rw (length-line c.args.l)
-
-pub returns-clause-out_after : goal.returns-clause-out_after
-returns-clause-out_after c =
-    let a = c.args in
-    line-laid a.at a.l a.out.now _ _ _ _ _ c.put_column.ensures c.put_column-2.ensures c.put_column-3.ensures c.put_column-4.ensures c.put_column-5.ensures
+pub copy_from_slice-requires : goal.copy_from_slice-requires
+copy_from_slice-requires c = length-take-le 70 c.args.out.now c.requires ∙ sym (ap length c.line_text-line.ensures ∙ length_line _)

@@ -1,17 +1,7 @@
--- What is left of `cards::write_card`.
-use borrow.Author.Tests.{le-leb, lt-leb}
-use borrow.Author.Rules.{rules}
-use Rattle.cards.specs.Cards.{can_write}
+-- The room and the card are of one length.
+use Rattle.std.proofs.Common.{◌∙◌, sym, ap, length, length-take-le}
+use Rattle.cards.proofs.Lines.{length_line}
 use Rattle.cards.proofs.write_card.Goals as goal
 
-pub returns-then-out-lt-CARD : goal.returns-then-out-lt-CARD
-unfolding can_write
-returns-then-out-lt-CARD c = simp (lt-leb _ _ c.if-out-lt-CARD.true) (search rules)
-
-pub returns-then-not-is_carried : goal.returns-then-not-is_carried
-unfolding can_write
-returns-then-not-is_carried c = simp (← c.is_carried.ensures, c.if-not-is_carried.true, le-leb _ _ c.if-out-lt-CARD.false) (search rules)
-
-pub returns : goal.returns
-unfolding can_write
-returns c = simp (c.put_card.ensures, c.card_of-c.ensures, ← c.is_carried.ensures, c.if-not-is_carried.false, le-leb _ _ c.if-out-lt-CARD.false) (search rules)
+pub copy_from_slice-requires : goal.copy_from_slice-requires
+copy_from_slice-requires c = length-take-le 74 c.args.out.now c.if-out-lt-CARD.false ∙ sym (ap length c.card_line-line.ensures ∙ length_line _)

@@ -1,20 +1,12 @@
--- Each of the three ways out is a fact of `drift/proofs/Halves.antt`.
-use Rattle.std.proofs.Common.{arith}
-use Rattle.drift.proofs.Halves.{half_lt, rounds-down, rounds-even, rounds-up}
+-- Each of the three ways out is a fact of `drift/proofs/Nearest.antt`.
+use Rattle.drift.proofs.Nearest.{rounds_down, rounds_even, rounds_up}
 use Rattle.drift_floats.proofs.nearest_ns.Goals as goal
-use Rattle.drift_floats.proofs.nearest_ns.Goals.{then-part-half-2+else-rest-eq0, else-part-half-2}
 
-pub overflow_mul-unit : goal.overflow_mul-unit
-overflow_mul-unit c = omega (arith, half_lt c.args.mantissa c.args.places c.power-half.result c.requires.le_places c.power-half.ensures c.requires.places_bound)
+pub returns-in-Less : goal.returns-in-Less
+returns-in-Less c = rounds_down c.args.mantissa c.from-product.result c.args.places c.cmp.result c.from-product.ensures c.requires.places_bound c.cmp.ensures c.in-Less.is
 
-pub returns-then-part-half : goal.returns-then-part-half
-returns-then-part-half c = rounds-down c.args.mantissa c.args.places c.power-half.result c.requires.le_places c.power-half.ensures c.if-part-half.true
+pub returns-in-Equal : goal.returns-in-Equal
+returns-in-Equal c = rounds_even c.args.mantissa c.from-product.result c.args.places c.cmp.result c.from-product.ensures c.requires.places_bound c.cmp.ensures c.in-Equal.is
 
-pub returns-then-rest-eq0 : goal.returns-then-rest-eq0
-returns-then-rest-eq0 c =
-    rounds-even c.args.mantissa c.args.places c.power-half.result c.requires.le_places c.power-half.ensures c.if-part-half-2.true c.if-rest-eq0.true
-
-pub returns : goal.returns
-returns c =
-    rounds-up c.args.mantissa c.args.places c.power-half.result c.requires.le_places c.power-half.ensures c.if-part-half.false
-    (elim c.if-part-half-2.branch [ then-part-half-2+else-rest-eq0 w ↦ (λ e z. w.if-rest-eq0.false z) | else-part-half-2 w ↦ (λ e z. w.if-part-half-2.false e) ])
+pub returns-in-Greater : goal.returns-in-Greater
+returns-in-Greater c = rounds_up c.args.mantissa c.from-product.result c.args.places c.cmp.result c.from-product.ensures c.requires.places_bound c.cmp.ensures c.in-Greater.is

@@ -1,4 +1,4 @@
--- What is left of `host_flat::clock_quotient`.
+-- 1.0 is the quotient of the rate 100.
 use Rattle.std.proofs.Common.{refl}
 use lib.Ieee.{of_bits, of_int, div}
 use Rattle.drift.specs.Drift.{ratio}

@@ -1,4 +1,4 @@
--- What is left of `host_form::is_clock`.
+-- 1.0 is the quotient of the rate 100.
 use borrow.Author.Tests.{eq-eqb}
 use Rattle.std.proofs.Common.{refl}
 use lib.Ieee.{of_bits, of_int, div}

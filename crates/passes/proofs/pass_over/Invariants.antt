@@ -1,21 +1,23 @@
--- The invariant: the ids below i are done, and from i on the rows are as before; the sets have
--- the ids below i that the pass's rule puts in them.
-use Rattle.std.proofs.Common.{◌-◌, ◌≤◌, ◌≡◌}
+-- The invariant: from i on the rows are as before, and the sets and the count have ids below i alone; for every pass that
+-- the rule computes, the ids below i are done, and are in its sets as the pass puts them there.
+use Rattle.std.proofs.Common.{ℕ, ◌^◌, ◌≤◌, ◌<◌, ◌≡◌}
 use lib.ListN.{length}
 use Rattle.bitmap.specs.Sets.{ids_where, count_where}
 use Rattle.bitmap.specs.Bitmaps.{capacity, bitmap_of}
+use Rattle.lease.specs.Pass.{Pass}
 use Rattle.lease.specs.Tables.{below}
+use Rattle.lease.specs.Rows.{row_at}
 use Rattle.lease.specs.Passes.{row_after, is_first, is_second}
+use Rattle.passes.specs.Fits.{Computes}
 use Rattle.passes.proofs.pass_over.Given as goal
 
 abbrev pub invariant-loop-i : goal.invariant-loop-i
-invariant-loop-i l = (l.i ≤ l.n)
-    × (l.n ≤ capacity)
-    × (length l.initial.rows ≡ capacity)
-    × (l.rows ≡ below l.i (row_after l.pass l.own) l.initial.rows)
-    × (l.first ≡ bitmap_of l.n (ids_where (is_first l.pass l.own l.initial.rows) l.i))
-    × (l.second ≡ bitmap_of l.n (ids_where (is_second l.pass l.own l.initial.rows) l.i))
-    × (l.count ≡ count_where (is_first l.pass l.own l.initial.rows) l.i)
-
-abbrev pub decreases-loop-i : goal.decreases-loop-i
-decreases-loop-i l = l.n - l.i
+invariant-loop-i g l = (length l.rows ≡ capacity)
+    × ((k : ℕ) → l.i ≤ k → row_at l.rows k ≡ row_at l.initial.rows k)
+    × (l.first.bits < 2 ^ l.i)
+    × (l.second.bits < 2 ^ l.i)
+    × (l.count ≤ l.i)
+    × ((pass : Pass) → Computes (goal.F-post g l.rule) pass → (l.rows ≡ below l.i (row_after pass l.own) l.initial.rows)
+    × (l.first ≡ bitmap_of l.n (ids_where (is_first pass l.own l.initial.rows) l.i))
+    × (l.second ≡ bitmap_of l.n (ids_where (is_second pass l.own l.initial.rows) l.i))
+    × (l.count ≡ count_where (is_first pass l.own l.initial.rows) l.i))

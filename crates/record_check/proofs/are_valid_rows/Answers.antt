@@ -1,16 +1,12 @@
--- The invariant: the rows below i have been looked at.
-use Rattle.std.proofs.Common.{◌-◌}
-use native.Mathlib.Numerals.{add-one}
-use borrow.Author.Rules.{rules}
-use Rattle.lease.specs.RecordCheck.{rows_valid}
+-- What `all` answers over the rows with their ids.
+use Rattle.std.proofs.Common.{rules, tests, ◌∙◌}
+use Rattle.std.proofs.lemmas.Iterator.{YieldsList-from_slice}
+use Rattle.std.proofs.lemmas.Iterator.Consumers.{YieldsList-from_enumerate}
+use Rattle.std.proofs.lemmas.Iterator.Search.{all_from_yields_List}
+use Rattle.record_check.proofs.Laws.{all_rows}
 use Rattle.record_check.proofs.are_valid_rows.Goals as goal
 
-pub loop-i-init : goal.loop-i-init
-unfolding rows_valid
-loop-i-init c = search rules
-
-pub loop-i-preserved : goal.loop-i-preserved
-unfolding rows_valid
-loop-i-preserved c =
-    let l = c.loop-i in
-    (search rules, search rules, search rules, rw (c.both-valid.ensures, c.is_valid_at-at.ensures, l.invariant.3, add-one))
+pub returns : goal.returns
+returns c =
+    let m = c.args.m.now in
+    all_from_yields_List _ _ _ c.all.result c.all.ensures.ran (YieldsList-from_enumerate (YieldsList-from_slice m.peers cc) cc) (λ x b q k. search (rules, tests)) ∙ all_rows m.me m.population m.now m.peers (search rules)

@@ -1,2 +1,0 @@
--- The laws of filling a line, beside the functions' proofs.
-pub mod Bytes
