@@ -19,10 +19,7 @@ const TURNS: u64 = 1000;
 fn answer<T, F: FnOnce(T) -> u64>(a: Result<T, BitmapError>, of: F) -> u64
     requires { F.IsAlwaysCallable of }
 {
-    match a {
-        Ok(x) => of(x),
-        Err(e) => refused(e.number()),
-    }
+    a.map_or_else(|e| refused(e.number()), of)
 }
 
 fn set_of(a: Result<Bitmap, BitmapError>) -> u64 {
@@ -49,7 +46,7 @@ fn read_flag(input: &mut impl Read) -> io::Result<bool> {
     Ok(word(input)? == 1)
 }
 
-// A call on one set and an id.
+// A call on one set and an id, which is cast: Rust has no `From` between usize and u64.
 fn with_id(first: u8, input: &mut impl Read) -> io::Result<u64> {
     let b = read_set(input)?;
     let id = word(input)? as usize;

@@ -30,7 +30,7 @@ pub enum Event {
     Notice(LeaseNum, LeaseNotice),
 }
 
-// Why a card is refused.
+// Why a card is refused. No messages and no Error: document 02 prints a refusal as its number, and `lease::Refusal` has no Debug.
 #[derive(Clone, Copy, PartialEq, Eq)]
 pub enum CardRefusal {
     // The line is not six columns of numbers.
@@ -165,20 +165,18 @@ pub fn is_card(c: CallC) -> bool
 pub fn event_of(c: CallC) -> Event
     ensures { result ≡ event_of c }
 {
-    if c.code == 1 {
-        return Event::SetUp(SetUpCall {
+    match c.code {
+        // `as`: Rust has no `From` between u64 and usize, which here have the same numbers.
+        1 => Event::SetUp(SetUpCall {
             me: c.peer as usize,
             population: c.size as usize,
             expire_timeout: c.first,
             heartbeat: c.second,
             now: Reading(c.number),
-        });
+        }),
+        2 => Event::Advance(Reading(c.number)),
+        _ => Event::Notice(LeaseNum(c.number), lease_notice_of(c)),
     }
-    if c.code == 2 {
-        return Event::Advance(Reading(c.number));
-    }
-    let notice = lease_notice_of(c);
-    Event::Notice(LeaseNum(c.number), notice)
 }
 
 // ---- the card of an event

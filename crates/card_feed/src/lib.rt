@@ -9,21 +9,20 @@ ghost use Rattle.card_feed.specs.Feed.{blank_replay, line_given, ended_text, fee
 ghost use Rattle.card_feed.specs.Feed.{ended as Feed·ended};
 
 use card_events::CardRefusal;
-use card_lines::put_outcome;
+use card_lines::{LINE, put_outcome};
 use card_partials::Partial;
 use card_sessions::{Session, blank_session, take_card};
+use cards::COLUMNS;
 
-// The most bytes that are taken at a time, and the room that their lines need: for each byte of theirs and of a line
-// before them 123, since 74 bytes give at most 129 lines of 70.
-const MOST_INPUT: usize = 4096;
+// The most bytes that are taken at a time.
+pub const MOST_INPUT: usize = 4096;
 
-const ROOM: usize = 512_910;
+// The room that their lines need: for each byte of theirs and of a line before them 123, since 74 bytes give at most 129
+// lines of 70.
+pub const ROOM: usize = 512_910;
 
 // What ends a line.
 const NEWLINE: u8 = b'\n';
-
-// The room for one line.
-const LINE: usize = 70;
 
 // What is kept between two chunks.
 #[derive(Clone, Copy)]
@@ -40,7 +39,7 @@ pub fn blank_replay() -> Replay
     Replay {
         partial: Partial {
             filled: 0,
-            columns: [0; 73],
+            columns: [0; COLUMNS],
         },
         session: blank_session(),
     }
@@ -70,6 +69,7 @@ impl Replay {
         ensures value { result ≡ length (feed_text self.old input.now) }
         ensures out_after { out.new ≡ laid (feed_text self.old input.now) out.old }
     {
+        // Stepped by hand: each line goes behind what is written, which no iterator says plainer.
         let mut written: usize = 0;
         for b in input {
             if *b == NEWLINE {

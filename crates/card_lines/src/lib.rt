@@ -12,14 +12,16 @@ use columns::{number_of, put_column};
 use host_lines::{LineC, line_of};
 use lease::{FiredTimer, FiredTimers, Line, Lines};
 
-// How long a line is, and with its newline.
+// How long a line is.
 const COLUMNS: usize = 69;
 
-const LINE: usize = 70;
+// And with its newline.
+pub const LINE: usize = 70;
 
 // ---- writing: each puts its lines at the start of the bytes, and answers how many bytes they are
 
-// A line with its newline.
+// A line with its newline. Column by column, as `card_line` of `cards` does with six: one walk over a table of widths for both is
+// no plainer, since each column has a name.
 #[tactic(auto, unfolding(crate::specs::Lines::line_text, crate::specs::Lines::line_columns))]
 fn line_text(l: LineC) -> [u8; LINE]
     ensures { result ≡ line_text l }
@@ -69,6 +71,7 @@ fn put_fired(out: &mut [u8], num: u64, fired: FiredTimers) -> usize
     ensures value { result ≡ length (text_of (fired_lines num (listed_in fired))) }
     ensures out_after { out.new ≡ laid (text_of (fired_lines num (listed_in fired))) out.old }
 {
+    // Stepped by hand: each turn writes behind what is written, which no iterator says plainer.
     let mut end: usize = 0;
     let listed = &fired.timers[..fired.count.min(128)];
     for timer in listed {
@@ -106,6 +109,7 @@ fn put_quiet_end(out: &mut [u8], end: Option<Line>) -> usize
     ensures value { result ≡ length (text_of (quiet_lines end)) }
     ensures out_after { out.new ≡ laid (text_of (quiet_lines end)) out.old }
 {
+    // Tried: `map_or` with a closure that writes to `out`; that `out` is the same where there is no line did not close.
     match end {
         None => 0,
         Some(line) => put_line(out, line_of(line)),
@@ -153,7 +157,8 @@ fn line_fits(l: LineC) -> bool
 }
 
 // Writes a line with its newline at the start of the bytes, and answers true; or answers false and writes nothing, where
-// the numbers have no room in their columns or the line has none in the bytes.
+// the numbers have no room in their columns or the line has none in the bytes. A bool: an error with two
+// cases is no plainer, as no caller asks which it was.
 #[tactic(auto, using(crate::proofs::Text::line_laid), unfolding(crate::specs::Lines::can_write))]
 pub fn write_line(l: LineC, out: &mut [u8]) -> bool
     ensures value { result ≡ can_write l (length out.old) }

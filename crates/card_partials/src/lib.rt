@@ -6,13 +6,10 @@ ghost use Rattle.std.specs.Prelude.{◌≡◌};
 ghost use Rattle.card_partials.specs.Partials.{kept_by, partial_read};
 
 use card_events::{CardRefusal, Event};
-use cards::read_event;
-
-// A card's columns.
-const COLUMNS: usize = 73;
+use cards::{COLUMNS, read_event};
 
 // The line so far: how many of its bytes there are, 74 for any number above 73, and its first 73 bytes. Bytes from
-// `filled` on are of no meaning.
+// `filled` on are of no meaning. A count beside the bytes, by the project's rule of fixed memory; no slice's length can be 74.
 #[derive(Clone, Copy)]
 pub struct Partial {
     pub filled: usize,
@@ -29,7 +26,7 @@ impl Partial {
             self.columns[self.filled] = b;
             self.filled += 1;
         } else {
-            self.filled = 74;
+            self.filled = COLUMNS + 1;
         }
     }
 

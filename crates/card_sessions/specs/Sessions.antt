@@ -48,6 +48,11 @@ given_by outcome s = record { outcome = outcome; fired = fired_timers []; sessio
 unfoldable pub refused_card : Session → CardRefusal → CardAnswer
 refused_card s k = given_by (Err k) s
 
+-- An answer, or the refusal of a card that changes nothing.
+unfoldable pub answered : Session → Result CardAnswer CardRefusal → CardAnswer
+answered s (Err k) = refused_card s k
+answered s (Ok a) = a
+
 -- ---- what an event gives, by document 01's rules
 
 abbrev pub set_up_answer : Session → Result (Unit {0}) Refusal → Manager → CardAnswer

@@ -4,7 +4,7 @@
 #![tactic(auto)]
 
 ghost use Rattle.std.specs.Prelude.{◌≡◌};
-ghost use Rattle.card_sessions.specs.Sessions.{blank_session, next_card, counted, with_manager, given_by, refused_card, set_up_given, advance_given, notice_given, event_given, card_given};
+ghost use Rattle.card_sessions.specs.Sessions.{blank_session, next_card, counted, with_manager, given_by, refused_card, answered, set_up_given, advance_given, notice_given, event_given, card_given};
 
 use card_events::{CardGiven, CardRefusal, Event, SetUpCall};
 use clock_calls::advance;
@@ -44,7 +44,7 @@ pub fn blank_session() -> Session
 fn next_card(cards: u64) -> u64
     ensures { result ≡ next_card cards }
 {
-    if cards < u64::MAX { cards + 1 } else { cards }
+    cards.saturating_add(1)
 }
 
 // One card more.
@@ -54,7 +54,7 @@ fn counted_session(s: Session) -> Session
 {
     Session {
         cards: next_card(s.cards),
-        manager: s.manager,
+        ..s
     }
 }
 
@@ -83,69 +83,69 @@ fn with_manager(s: Session, manager: Manager) -> Session
     ensures { result ≡ with_manager s manager }
 {
     Session {
-        cards: s.cards,
         manager: Some(manager),
+        ..s
     }
 }
 
-#[tactic(auto, unfolding(crate::specs::Sessions::set_up_given))]
-fn run_set_up(s: Session, u: SetUpCall) -> CardAnswer
-    ensures { result ≡ set_up_given s u }
+// ---- what an event gives, or why it is refused
+
+#[tactic(auto, unfolding(crate::specs::Sessions::answered, crate::specs::Sessions::set_up_given))]
+fn run_set_up(s: Session, u: SetUpCall) -> Result<CardAnswer, CardRefusal>
+    ensures { answered s result ≡ set_up_given s u }
 {
     let a = new_and_setup(u.me, u.population, u.expire_timeout, u.heartbeat, u.now);
-    match a.outcome {
-        Err(refusal) => refused_card(s, CardRefusal::from(refusal)),
-        Ok(()) => given(Ok(CardGiven::Done), with_manager(s, a.manager)),
-    }
+    a.outcome?;
+    Ok(given(Ok(CardGiven::Done), with_manager(s, a.manager)))
 }
 
-#[tactic(auto, unfolding(crate::specs::Sessions::advance_given))]
-fn run_advance(s: Session, m: Manager, to: Reading) -> CardAnswer
-    ensures { result ≡ advance_given s m to }
+#[tactic(auto, unfolding(crate::specs::Sessions::answered, crate::specs::Sessions::advance_given))]
+fn run_advance(s: Session, m: Manager, to: Reading) -> Result<CardAnswer, CardRefusal>
+    ensures { answered s result ≡ advance_given s m to }
 {
     let a = advance(m, to);
-    match a.outcome {
-        Err(refusal) => refused_card(s, CardRefusal::from(refusal)),
-        Ok(advanced) => CardAnswer {
-            outcome: Ok(CardGiven::Fired(a.manager.active_num, advanced.quiet_end)),
-            fired: advanced.fired,
-            session: with_manager(s, a.manager),
-        },
-    }
+    let advanced = a.outcome?;
+    Ok(CardAnswer {
+        outcome: Ok(CardGiven::Fired(a.manager.active_num, advanced.quiet_end)),
+        fired: advanced.fired,
+        session: with_manager(s, a.manager),
+    })
 }
 
-#[tactic(auto, unfolding(crate::specs::Sessions::notice_given))]
-fn run_notice(s: Session, m: Manager, num: LeaseNum, notice: LeaseNotice) -> CardAnswer
-    ensures { result ≡ notice_given s m num notice }
+// Number and notice are the Rust's two arguments.
+#[tactic(auto, unfolding(crate::specs::Sessions::answered, crate::specs::Sessions::notice_given))]
+fn run_notice(
+    s: Session,
+    m: Manager,
+    num: LeaseNum,
+    notice: LeaseNotice,
+) -> Result<CardAnswer, CardRefusal>
+    ensures { answered s result ≡ notice_given s m num notice }
 {
     let a = add_notice(m, num, notice);
-    match a.outcome {
-        Err(refusal) => refused_card(s, CardRefusal::from(refusal)),
-        Ok(lines) => given(Ok(CardGiven::Acted(lines)), with_manager(s, a.manager)),
-    }
+    let lines = a.outcome?;
+    Ok(given(Ok(CardGiven::Acted(lines)), with_manager(s, a.manager)))
 }
 
 // Set-up comes once, and before all others.
-#[tactic(auto, unfolding(crate::specs::Sessions::event_given))]
-fn run_event(s: Session, e: Event) -> CardAnswer
-    ensures { result ≡ event_given s s.manager e }
+#[tactic(auto, unfolding(crate::specs::Sessions::answered, crate::specs::Sessions::event_given))]
+fn run_event(s: Session, e: Event) -> Result<CardAnswer, CardRefusal>
+    ensures { answered s result ≡ event_given s s.manager e }
 {
     match (s.manager, e) {
         (None, Event::SetUp(u)) => run_set_up(s, u),
         (Some(m), Event::Advance(to)) => run_advance(s, m, to),
         (Some(m), Event::Notice(num, notice)) => run_notice(s, m, num, notice),
-        _ => refused_card(s, CardRefusal::OutOfTurn),
+        _ => Err(CardRefusal::OutOfTurn),
     }
 }
 
 // A card, read: what it gives, and the session after it.
-#[tactic(auto, unfolding(crate::specs::Sessions::card_given, crate::specs::Sessions::counted))]
+#[tactic(auto, unfolding(crate::specs::Sessions::answered, crate::specs::Sessions::card_given, crate::specs::Sessions::counted))]
 pub fn take_card(s: Session, read: Result<Event, CardRefusal>) -> CardAnswer
     ensures { result ≡ card_given s read }
 {
     let next = counted_session(s);
-    match read {
-        Err(refusal) => refused_card(next, refusal),
-        Ok(e) => run_event(next, e),
-    }
+    read.and_then(|e| run_event(next, e))
+        .unwrap_or_else(|refusal| refused_card(next, refusal))
 }

@@ -11,9 +11,10 @@ use card_events::{CardRefusal, Event, card_of, event_of, is_card, is_carried};
 use columns::{number_of, put_column};
 use host_cards::CallC;
 
-// How long a card is, and with its newline.
-const COLUMNS: usize = 73;
+// How long a card is.
+pub const COLUMNS: usize = 73;
 
+// And with its newline.
 const CARD: usize = 74;
 
 // ---- reading
@@ -36,21 +37,22 @@ pub fn read_card(line: &[u8]) -> Option<CallC>
     })
 }
 
-// The event of a line, or 21 where the line is not of the form, or 22 where its numbers are no card.
+// The event of a line; else `NotOfForm` (21) where the line is not of the form, `NoCard` (22) where its numbers are no card.
 #[tactic(auto, unfolding(crate::specs::Cards::event_read))]
 pub fn read_event(line: &[u8]) -> Result<Event, CardRefusal>
     ensures { result ≡ event_read line.now }
 {
-    match read_card(line) {
-        None => Err(CardRefusal::NotOfForm),
-        Some(c) if is_card(c) => Ok(event_of(c)),
-        Some(_) => Err(CardRefusal::NoCard),
+    let c = read_card(line).ok_or(CardRefusal::NotOfForm)?;
+    if !is_card(c) {
+        return Err(CardRefusal::NoCard);
     }
+    Ok(event_of(c))
 }
 
 // ---- writing
 
-// The card of six numbers, with its newline.
+// The card of six numbers, with its newline. Column by column, as `line_text` of `card_lines` does with five: one walk over a table
+// of widths for both is no plainer, since each column has a name.
 #[tactic(auto, unfolding(crate::specs::Cards::card_text))]
 fn card_line(c: CallC) -> [u8; CARD]
     ensures { result ≡ card_line c }
@@ -72,7 +74,8 @@ fn card_line(c: CallC) -> [u8; CARD]
 }
 
 // Writes the card of an event with its newline at the start of the bytes, and answers true; or answers false and
-// writes nothing, where a card cannot carry the event or has no room.
+// writes nothing, where a card cannot carry the event or has no room. A bool and no Result: `is_carried` and the room, which the
+// caller knows, tell the two causes apart.
 #[tactic(auto, using(crate::proofs::Lines::length_line, crate::proofs::Lines::line_laid), unfolding(crate::specs::Cards::can_write))]
 pub fn write_card(e: Event, out: &mut [u8]) -> bool
     ensures value { result ≡ can_write e (length out.old) }

@@ -43,10 +43,9 @@ fn next_byte(v: u64, b: u8) -> Field
         return Field::Bad;
     }
     let digit = u64::from(b - b'0');
-    match v.checked_mul(10).and_then(|tens| tens.checked_add(digit)) {
-        Some(n) => Field::Number(n),
-        None => Field::Bad,
-    }
+    v.checked_mul(10)
+        .and_then(|tens| tens.checked_add(digit))
+        .map_or(Field::Bad, Field::Number)
 }
 
 impl Field {
@@ -96,6 +95,7 @@ fn place_byte(n: u64) -> u8
     if n == 0 {
         return b' ';
     }
+    // By `as`: below 10, and Rust has no `From` from u64 to u8.
     b'0' + (n % 10) as u8
 }
 
@@ -110,12 +110,14 @@ fn put_places(out: &mut [u8], n: u64)
     }
 }
 
-// Puts n into the columns.
+// Puts n into the columns. Beside `put_places`, which blanks its last place where nothing is left: one function for both, with
+// a flag, is no plainer.
 #[tactic(auto, unfolding(crate::specs::Columns::column))]
 pub fn put_column(out: &mut [u8], n: u64)
     ensures { out.new ≡ column (length out.old) n }
 {
     if let Some((last, before)) = out.split_last_mut() {
+        // By `as`, as above.
         *last = b'0' + (n % 10) as u8;
         put_places(before, n / 10);
     }

@@ -9,6 +9,7 @@
 //     l ID               LeaseTimeout    h                     HigherNumber      a ID BAR  GuardAcceptBar
 // and the messages as example_script/src/notices.rt has them
 //     an entry's timer:  `-` none,       u unarmed,            e exploded,       d NS      armed
+// No contracts: the crate is a program's, and what the program prints is compared with its file stdout.
 #![tactic(auto)]
 
 use bitmap::Bitmap;
@@ -90,7 +91,7 @@ fn message(a: u64, m: LeaseMsg) -> u64 {
     }
 }
 
-// A letter and the id of a peer.
+// A letter and the id of a peer, which is cast: Rust has no `From` between usize and u64.
 fn peer(a: u64, b: u8, id: usize) -> u64 {
     mix(letter(a, b), id as u64)
 }

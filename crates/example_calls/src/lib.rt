@@ -25,6 +25,7 @@ fn plain(a: Answered<()>) -> Done {
     }
 }
 
+// The five numbers are those that new_and_setup takes: a struct of them is no plainer.
 fn set_up(me: usize, n: usize, t: u64, heartbeat: u64, now: u64) -> Done {
     plain(setup::new_and_setup(me, n, t, heartbeat, Reading(now)))
 }
@@ -34,6 +35,7 @@ pub fn start() -> Done {
     set_up(0, 3, 1_000_000_000, 0, 0)
 }
 
+// Own id and population are cast: Rust has no `From` between usize and u64.
 fn read_set_up(input: &mut impl Read) -> io::Result<Done> {
     let me = word(input)? as usize;
     let n = word(input)? as usize;

@@ -14,10 +14,10 @@ use std::io::Read;
 
 // The row of a peer below 64; of another id, the row of 0.
 fn row(m: Manager, id: usize) -> Peer {
-    m.peers[if id < 64 { id } else { 0 }]
+    m.peers.get(id).copied().unwrap_or(m.peers[0])
 }
 
-// What a row has under a letter.
+// What a row has under a letter. The closure is as plain as a call of `rows::promise_timer`.
 fn entry_of(r: Peer, letter: u8) -> u64 {
     match letter {
         b'p' => timer(r.promise_sent.map(|(t, _)| t)),
@@ -34,7 +34,7 @@ pub fn is_question(letter: u8) -> bool {
     )
 }
 
-// Reads the id that the question is about, if it is about one.
+// Reads the id that the question is about, if it is about one; ids are cast, as Rust has no `From` between usize and u64.
 pub fn ask(m: Manager, letter: u8, input: &mut impl Read) -> io::Result<u64> {
     Ok(match letter {
         b'g' => set_of(questions::grant_set(m)),

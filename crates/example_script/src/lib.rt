@@ -13,7 +13,7 @@ use std::io::{Read, Write};
 use std::{fmt, io};
 
 // More than any line has: a bound, so that each loop ends whatever the text is.
-const TURNS: u64 = 1000;
+const TURNS: usize = 1000;
 
 // How many lines are run, and how many of them are ok.
 #[derive(Clone, Copy)]
@@ -38,24 +38,21 @@ struct Part {
 
 // The next byte, unless the text ends.
 fn byte(input: &mut impl Read) -> io::Result<Option<u8>> {
-    match input.by_ref().bytes().next() {
-        None => Ok(None),
-        Some(next) => Ok(Some(next?)),
-    }
+    input.by_ref().bytes().next().transpose()
 }
 
 // Writes what document 01 says, but for the `|` after it, and answers whether there was a line.
 pub fn copy_saying(input: &mut impl Read, output: &mut impl Write) -> io::Result<bool> {
-    let first = byte(input)?;
-    let mut next = first;
-    for _ in 0..TURNS {
-        match next {
-            None | Some(b'|') => break,
-            Some(c) => output.write_all(&[c])?,
+    // A flag beside the loop: what is written is no value that an iterator could answer.
+    let mut is_line = false;
+    for next in input.by_ref().bytes().take(TURNS) {
+        is_line = true;
+        match next? {
+            b'|' => break,
+            c => output.write_all(&[c])?,
         }
-        next = byte(input)?;
     }
-    Ok(first.is_some())
+    Ok(is_line)
 }
 
 // The word with one more byte: a digit, or a letter by itself.
@@ -86,6 +83,7 @@ pub fn word(input: &mut impl Read) -> io::Result<u64> {
 
 // The next word of a call, a letter or a number below 256.
 pub fn letter(input: &mut impl Read) -> io::Result<u8> {
+    // By `as`: Rust has no `From` from u64 to u8.
     Ok((word(input)? % 256) as u8)
 }
 

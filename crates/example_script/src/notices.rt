@@ -46,6 +46,7 @@ fn new_grants(input: &mut impl Read) -> io::Result<LeaseNotice> {
     Ok(LeaseNotice::NewGrants(set, bar(input)?))
 }
 
+// The id is cast: Rust has no `From` between usize and u64.
 fn received(input: &mut impl Read) -> io::Result<LeaseNotice> {
     let id = word(input)? as usize;
     Ok(LeaseNotice::RecvLeaseMsg(id, message(input)?))

@@ -25,7 +25,7 @@ pub struct AnswerC {
     pub fired: FiredTimers,
 }
 
-// Why a call from the host is refused.
+// Why a call from the host is refused. C gets the number alone, so there is no text.
 #[derive(Clone, Copy, PartialEq, Eq)]
 pub enum CallRefusal {
     // The card is no call.
@@ -139,10 +139,7 @@ fn fired_answer(sent: Bitmap, held: Bitmap, end: Option<Line>) -> AnswerC
     ensures { result ≡ fired_answer sent held end }
 {
     let fired = fired_line(sent, held);
-    match end {
-        None => one_line(fired),
-        Some(line) => two_lines(fired, line_of(line)),
-    }
+    end.map_or_else(|| one_line(fired), |line| two_lines(fired, line_of(line)))
 }
 
 #[tactic(auto, unfolding(crate::specs::Answers::advance_lines))]
@@ -171,6 +168,7 @@ pub fn plain_answer(outcome: Result<(), Refusal>) -> AnswerC
     outcome.map_or_else(refused_by, |()| no_lines())
 }
 
+// `plain_answer` under the name of set-up's definition: a second body would be no plainer.
 #[tactic(auto, unfolding(crate::specs::Answers::setup_answer))]
 pub fn setup_answer(outcome: Result<(), Refusal>) -> AnswerC
     ensures { result ≡ setup_answer outcome }

@@ -30,6 +30,9 @@ pub fn left_by(f: ManagerC, answer: AnswerC, m: Manager) -> CalledC
     CalledC { answer, manager }
 }
 
+// Here, in host_outer_calls, host_questions and biasflint, f and c are the record and the card that the exported C function takes: its two
+// arguments, in the order in which the rules' definitions name them. Ids are cast: Rust has no `From` between usize and
+// u64.
 #[tactic(auto, unfolding(host_rules::specs::Calls::setup_c))]
 pub fn setup_c(f: ManagerC, c: CallC) -> CalledC
     ensures { result ≡ setup_c f c }

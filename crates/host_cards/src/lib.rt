@@ -28,10 +28,10 @@ pub struct CallC {
 fn is_up_to(x: u64, high: u64) -> bool
     ensures { result ≡ within 1 x high }
 {
-    1 <= x && x <= high
+    (1..=high).contains(&x)
 }
 
-// 0 or 1.
+// 0 or 1: a flag of a card, and of the record.
 pub fn is_flag(n: u64) -> bool
     ensures { result ≡ is_flag n }
 {
@@ -124,7 +124,7 @@ pub fn msg_of(c: CallC) -> LeaseMsg
     }
 }
 
-// A notice, by the code.
+// A notice, by the code. Ids are cast: Rust has no `From` between usize and u64.
 #[tactic(auto, unfolding(crate::specs::Cards::lease_notice_of))]
 pub fn lease_notice_of(c: CallC) -> LeaseNotice
     ensures { result ≡ lease_notice_of c }
@@ -143,6 +143,7 @@ pub fn lease_notice_of(c: CallC) -> LeaseNotice
 fn percent_of(n: u64) -> i8
     ensures { result ≡ percent_of n }
 {
+    // By `as`: the numbers fit, and Rust has no such `From`.
     let d = (n % 256) as i16 - 128;
     d as i8
 }

@@ -1,5 +1,5 @@
 // A manager's record as the flat record that crosses to the host. Every contract says that the result equals a
-// definition of host_record/specs/Flat. Functions, and no `From`: that would have to stand in the types' crate.
+// definition of host_record/specs/Flat.
 #![tactic(auto)]
 
 ghost use Rattle.std.specs.Prelude.{◌≡◌, map};
@@ -111,7 +111,8 @@ fn quiet_at(t: Option<Reading>) -> u64
     t.map_or(0, |deadline| deadline.0)
 }
 
-// The whole record.
+// The whole record. A `From` would be no plainer: its impl has to stand in the crate of one of the two types, so all
+// of this code would move there.
 #[tactic(auto, unfolding(host_record::specs::Flat::flat_of))]
 pub fn flat_record(m: Manager) -> ManagerC
     ensures { result ≡ flat_of m }

@@ -4,10 +4,12 @@
 
 ghost use Rattle.std.specs.Prelude.{◌≡◌};
 ghost use Rattle.std.specs.List.{list_all};
-ghost use Rattle.host_record.specs.Managers.{is_entry, is_flag, is_revoking, is_grant, is_row, is_clock, is_quiet, is_record};
+ghost use Rattle.host_record.specs.Managers.{is_entry, is_revoking, is_grant, is_row, is_clock, is_quiet, is_record};
 
+use host_cards::is_flag;
 use host_record::{ManagerC, PeerC};
 
+// A tag and its deadline stand side by side in the record that crosses to C, and the definitions take them so.
 fn is_entry(tag: u8, at: u64) -> bool
     ensures { result ≡ is_entry tag at }
 {
@@ -18,19 +20,13 @@ fn is_entry(tag: u8, at: u64) -> bool
     }
 }
 
-fn is_flag(n: u8) -> bool
-    ensures { result ≡ is_flag n }
-{
-    n < 2
-}
-
 fn is_revoking(tag: u8, revoking: u8) -> bool
     ensures { result ≡ is_revoking tag revoking }
 {
     if tag == 0 {
         revoking == 0
     } else {
-        is_flag(revoking)
+        is_flag(u64::from(revoking))
     }
 }
 
@@ -48,7 +44,7 @@ fn is_row(p: PeerC) -> bool
         && is_grant(p.promise_sent, p.promise_sent_at, p.revoking);
     let held = is_entry(p.guard_held, p.guard_held_at)
         && is_entry(p.promise_held, p.promise_held_at);
-    sent && held && is_flag(p.refresh_mark)
+    sent && held && is_flag(u64::from(p.refresh_mark))
 }
 
 fn are_rows(peers: [PeerC; 64]) -> bool
@@ -63,14 +59,18 @@ fn is_clock(drifting: u8, q: f64) -> bool
     if drifting == 0 {
         q == 1.0
     } else {
-        is_flag(drifting)
+        is_flag(u64::from(drifting))
     }
 }
 
 fn is_quiet(quiet: u8, at: u64) -> bool
     ensures { result ≡ is_quiet quiet at }
 {
-    if quiet == 0 { at == 0 } else { is_flag(quiet) }
+    if quiet == 0 {
+        at == 0
+    } else {
+        is_flag(u64::from(quiet))
+    }
 }
 
 // The whole record.

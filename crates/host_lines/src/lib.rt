@@ -31,7 +31,7 @@ pub fn line_c(code: u64, number: u64, peer: u64, first: u64) -> LineC
     }
 }
 
-// A message to one peer.
+// A message to one peer. Ids are cast: Rust has no `From` between usize and u64.
 fn send_line(number: u64, id: ReplicaId, msg: LeaseMsg) -> LineC
     ensures { result ≡ send_line number id msg }
 {
@@ -48,16 +48,16 @@ fn send_line(number: u64, id: ReplicaId, msg: LeaseMsg) -> LineC
 fn guard_line(number: u64, set: u64, bar: Option<Bar>) -> LineC
     ensures { result ≡ guard_line number set bar }
 {
-    match bar {
-        None => line_c(1, number, 0, set),
-        Some(x) => LineC {
+    bar.map_or(
+        line_c(1, number, 0, set),
+        |x| LineC {
             code: 1,
             number,
             peer: 1,
             first: set,
             second: x.0,
         },
-    }
+    )
 }
 
 // A message to the peers of a set.

@@ -1,5 +1,5 @@
 // A flat record read as a manager's. Every contract says that the result equals a definition of
-// host_record/specs/Managers. Functions, and no `From`: that would have to stand in the types' crate.
+// host_record/specs/Managers.
 #![tactic(auto)]
 
 ghost use Rattle.std.specs.Prelude.{◌≡◌, map};
@@ -10,7 +10,7 @@ use host_record::{ManagerC, PeerC};
 use lease::{LeaseNum, Manager, Peer};
 use timer::{Reading, Timer};
 
-// The tags are numbers, as the C interface has them.
+// Tags are numbers, and a tag and its deadline stand side by side, as the C interface has them.
 fn timer_of(tag: u8, at: u64) -> Timer
     ensures { result ≡ timer_of tag at }
 {
@@ -68,7 +68,8 @@ fn quiet_timer_of(quiet: u8, at: u64) -> Option<Reading>
     (quiet != 0).then_some(Reading(at))
 }
 
-// The whole record.
+// The whole record. A `From` would be no plainer: its impl has to stand in the crate of one of the two types, so all
+// of this code would move there.
 #[tactic(auto, unfolding(host_record::specs::Managers::manager_of))]
 pub fn manager_of(f: ManagerC) -> Manager
     ensures { result ≡ manager_of f }

@@ -41,6 +41,7 @@ fn lease_cnt_c(f: ManagerC) -> CalledC
     kept_by(f, count_answer(lease_cnt(manager_of(f))))
 }
 
+// The id is cast: Rust has no `From` between usize and u64.
 #[tactic(auto, unfolding(host_rules::specs::Calls::time_left_c))]
 fn time_left_c(f: ManagerC, c: CallC) -> CalledC
     ensures { result ≡ time_left_c f c }

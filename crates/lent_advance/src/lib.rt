@@ -1,6 +1,5 @@
-// Advance over a lent record: the host lends the manager's record and finds it changed. The record is taken
-// apart and the by-value core called. With it the caller that lends: it has plain parameters, so that
-// whoever calls it needs no proof about lending.
+// Advance over a lent record: the host lends the manager's record and finds it changed. The by-value core is
+// called on a copy. With it a caller that lends. lent_notice has the same around a notice.
 #![tactic(auto)]
 
 ghost use Rattle.std.specs.Prelude.{◌≡◌};

@@ -1,6 +1,6 @@
-// A notice over a lent record: the host lends the manager's record and finds it changed. The record is
-// taken apart and the by-value core called. With it the caller that lends: it has plain parameters, so that
-// whoever calls it needs no proof about lending.
+// A notice over a lent record: the host lends the manager's record and finds it changed. The by-value core
+// is called on a copy. With it a caller that lends. lent_advance has the same around advance: two thin functions,
+// as document 01 names the form, are no longer than one over a closure.
 #![tactic(auto)]
 
 ghost use Rattle.std.specs.Prelude.{◌≡◌};
@@ -9,7 +9,7 @@ ghost use Rattle.lease.specs.Rules.{notice_of};
 use lease::{Answered, LeaseNotice, LeaseNum, Lines, Manager, Refusal};
 use leaseman::add_notice;
 
-// A notice on a lent record.
+// A notice on a lent record. Number and notice are the Rust's two arguments.
 pub fn add_notice_lent(
     m: &mut Manager,
     num: LeaseNum,

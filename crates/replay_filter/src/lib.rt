@@ -5,15 +5,9 @@
 ghost use Rattle.std.specs.Prelude.{◌≤◌, length};
 
 use anyhow::{Context, Result};
-use card_feed::{Replay, blank_replay};
+use card_feed::{MOST_INPUT, ROOM, Replay, blank_replay};
 use std::io;
 use std::io::{Read, Write};
-
-// The most bytes that are read at once, the most that `feed` takes.
-const CHUNK: usize = 4096;
-
-// The room that `feed` asks for what a chunk gives.
-const ROOM: usize = 512_910;
 
 // What a turn found: a chunk that was taken, the end of the input, or a chunk that was not taken.
 #[derive(Clone, Copy)]
@@ -37,7 +31,7 @@ fn move_some(
     out: &mut [u8],
     to: &mut impl Write,
 ) -> Result<Turn> {
-    let mut buf = [0; CHUNK];
+    let mut buf = [0; MOST_INPUT];
     let n = from.read(&mut buf).context("replay: standard input")?;
     if n == 0 {
         return Ok(Turn::AtEnd);

@@ -6,6 +6,7 @@
 // of its sent timer and of its held timer, or 0). The tag is 100 x mark + 10 x held + sent, where
 //     sent  0 none; guard 1 unarmed, 2 armed, 3 exploded; promise 8 unarmed, 4 armed, 5 exploded, and revoking 9, 6, 7
 //     held  0 none; guard 5 unarmed, 1 armed, 2 exploded; promise 6 unarmed, 3 armed, 4 exploded
+// Tags and refusals are numbers here, not enums: those of the C record and answer, which the file stdout has.
 #![tactic(auto)]
 
 use biasflint::call;
@@ -74,6 +75,7 @@ fn write_row(i: usize, p: PeerC, output: &mut impl Write) -> io::Result<()> {
             LineC {
                 code: 41,
                 number: tag,
+                // `as`: Rust has no `From` between usize and u64, which here have the same numbers.
                 peer: i as u64,
                 first: deadline(p.guard_sent_at, p.promise_sent_at),
                 second: deadline(p.guard_held_at, p.promise_held_at),
@@ -111,13 +113,14 @@ fn write_record(code: u64, m: ManagerC, output: &mut impl Write) -> io::Result<(
 
 // Writes the answer's lines.
 fn write_lines(a: AnswerC, output: &mut impl Write) -> io::Result<()> {
+    // By `as`: Rust has no `From` from u64 to usize.
     for line in [a.one, a.two, a.three].iter().take(a.count as usize) {
         write_line(*line, output)?;
     }
     Ok(())
 }
 
-// Writes a fired timer.
+// Writes a fired timer: with no lease number, so not card_lines' line.
 fn write_timer(t: FiredTimer, output: &mut impl Write) -> io::Result<()> {
     write_line(
         LineC {

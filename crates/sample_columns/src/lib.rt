@@ -2,30 +2,28 @@
 // read and written by `cards` and `card_lines`; the codes are the host library's.
 #![tactic(auto)]
 
-use cards::read_card;
+use card_lines::LINE;
+use cards::{COLUMNS, read_card};
 use host_cards::CallC;
 use host_lines::LineC;
 use std::io;
 use std::io::{ErrorKind, Read, Write};
 
-// A line without its newline.
-const COLUMNS: usize = 73;
-
-// Fills the columns with the next line's and answers true, or answers false where the input ends before.
-fn fill_columns(columns: &mut [u8; COLUMNS], input: &mut impl Read) -> io::Result<bool> {
-    match input.read_exact(columns) {
-        Ok(()) => Ok(true),
-        Err(e) if e.kind() == ErrorKind::UnexpectedEof => Ok(false),
+// The columns of the next line; none where the input ends before.
+fn next_columns(input: &mut impl Read) -> io::Result<Option<[u8; COLUMNS]>> {
+    let mut columns = [0; COLUMNS];
+    match input.read_exact(&mut columns) {
+        Ok(()) => Ok(Some(columns)),
+        Err(e) if e.kind() == ErrorKind::UnexpectedEof => Ok(None),
         Err(e) => Err(e),
     }
 }
 
 // The next line, read as a card; none where it is no card, or the input ends.
 pub fn next_card(input: &mut impl Read) -> io::Result<Option<CallC>> {
-    let mut columns = [0; COLUMNS];
-    if !fill_columns(&mut columns, input)? {
+    let Some(columns) = next_columns(input)? else {
         return Ok(None);
-    }
+    };
     // The newline, if the line has one.
     let mut newline = [0; 1];
     let _ended = input.read(&mut newline)?;
@@ -34,7 +32,7 @@ pub fn next_card(input: &mut impl Read) -> io::Result<Option<CallC>> {
 
 // Writes a line.
 pub fn write_line(l: LineC, output: &mut impl Write) -> io::Result<()> {
-    let mut out = [0; 70];
+    let mut out = [0; LINE];
     let _fits = card_lines::write_line(l, &mut out);
     output.write_all(&out)
 }
