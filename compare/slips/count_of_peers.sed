@@ -1,2 +1,2 @@
 # lookups: lease_cnt leaves out this controller
-s/1 + pass_over/0 + pass_over/
+s/1 + leased/0 + leased/

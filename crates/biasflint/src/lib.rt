@@ -1,4 +1,5 @@
 // The host library: one call on a record that the host owns and lends. biasflint_c is its archive for a host in Rust or C.
+// Below f is the record and c the card that the exported C function takes: the C interface.
 #![tactic(auto)]
 
 ghost use Rattle.std.specs.Prelude.{◌≡◌};
@@ -34,7 +35,7 @@ fn record_c(f: ManagerC, c: CallC) -> CalledC
 {
     match c.code {
         2 => advance_c(f, c),
-        code if code < 9 => notice_c(f, c),
+        0..=8 => notice_c(f, c),
         _ => outer_c(f, c),
     }
 }

@@ -1,9 +1,12 @@
 // Sets of ids below a size, of at most 64 ids: the types of module 1, and the leaf functions by which every set is made and read.
-// The calls of module 1 stand in bitmap_calls, those over a slice of ids in bitmap_lists; what they answer is in specs/Operations.
+// The calls of module 1 stand in bitmap_calls and bitmap_sets, those over a slice of ids in bitmap_lists; what they answer is in
+// specs/Operations. An id below 64 has no type of its own: a loop over a range has the bound at hand, and would have to make one at each turn.
+// Nor has a set of at most 64 ids: a host may hand in a set of any size, which is refused by a number, so a function that needs the
+// bound asks for it.
 #![tactic(auto)]
 
 ghost use Rattle.std.specs.Prelude.{◌≡◌, ◌+◌, ◌^◌, ◌<◌, ◌≤◌, OnOk};
-ghost use Rattle.bitmap.specs.Sets.{member, one, weight};
+ghost use Rattle.bitmap.specs.Sets.{member, weight};
 ghost use Rattle.bitmap.specs.Bitmaps.{capacity, number, bitmap_of, is_one};
 ghost use Rattle.bitmap.specs.Operations.{refusal_number, bad_size, size_checked};
 
@@ -19,7 +22,8 @@ pub struct Bitmap {
     pub bits: u64,
 }
 
-// Why a call is refused, in the order of document 01's numbers.
+// Why a call is refused, in the order of document 01's numbers. `number` is a match of its own, as its
+// definition is: nothing takes a refusal of any type.
 #[derive(Clone, Copy, PartialEq, Eq, Debug, Error)]
 pub enum BitmapError {
     #[error("id not below the size")]
@@ -69,7 +73,7 @@ pub fn none(size: u8) -> Bitmap
     Bitmap { size, bits: 0 }
 }
 
-// The set with the id i, if on, above all that it has.
+// Adds the id i, which is above every id of the set, if `on`. A flag, as in the definition: an `if` at each caller would be no plainer.
 pub fn with_id(set: Bitmap, on: bool, i: usize) -> Bitmap
     requires i_lt_capacity { i < capacity }
     requires set_bound { number set < 2 ^ i }
@@ -79,13 +83,6 @@ pub fn with_id(set: Bitmap, on: bool, i: usize) -> Bitmap
         bits: set.bits + weight_of(on, i),
         ..set
     }
-}
-
-// What an id adds to a count.
-pub fn one_if(on: bool) -> u64
-    ensures { result ≡ one on }
-{
-    u64::from(on)
 }
 
 // Whether the id i is a one of b: ones at or above its size count as zeros.
@@ -101,7 +98,7 @@ pub fn is_one(b: Bitmap, i: usize) -> bool
 pub fn bad_size(size: u8) -> bool
     ensures { result ≡ bad_size size }
 {
-    size == 0 || CAPACITY < size
+    !(1..=CAPACITY).contains(&size)
 }
 
 // Refuses a size that is not 1 to 64.

@@ -1,5 +1,5 @@
-// Module 1's calls for programs in C or Rust: the runs beside the Rust link it and compare each answer. A function that is
-// exported takes and answers no enum, so a set is its size and its number, and an answer is a record of numbers.
+// Module 1's calls for programs in C or Rust: the runs beside the Rust link it and compare each answer. An exported function
+// answers no enum, so an answer is a record of numbers; and the exported signatures stay, so a set is taken as its size and its number.
 #![tactic(auto)]
 
 ghost use Rattle.std.specs.Prelude.{◌≡◌};

@@ -6,9 +6,11 @@
 //     o SET  ones into four lent bytes of 255            i SET  the same, one byte of the four lent
 #![tactic(auto)]
 
+ghost use Rattle.std.specs.Prelude.{◌≤◌};
+
 use bitmap::{Bitmap, BitmapError};
 use example_answers::{count, flag, mix, refused, set};
-use example_script::{Counts, copy_saying, judge, letter, word, write_counts};
+use example_script::{Counts, copy_saying, judge, letter, read_flag, read_set, word, write_counts};
 use std::io;
 use std::io::{BufReader, BufWriter, Read, Write};
 
@@ -32,18 +34,6 @@ fn flag_of(a: Result<bool, BitmapError>) -> u64 {
 
 fn count_of(a: Result<u8, BitmapError>) -> u64 {
     answer(a, |n| count(u64::from(n)))
-}
-
-fn read_set(input: &mut impl Read) -> io::Result<Bitmap> {
-    let size = letter(input)?;
-    Ok(Bitmap {
-        size,
-        bits: word(input)?,
-    })
-}
-
-fn read_flag(input: &mut impl Read) -> io::Result<bool> {
-    Ok(word(input)? == 1)
 }
 
 // A call on one set and an id, which is cast: Rust has no `From` between usize and u64.
@@ -77,6 +67,7 @@ fn two_sets(first: u8, input: &mut impl Read) -> io::Result<u64> {
     Ok(flag_of(bitmap_sets::is_superset(b, other)))
 }
 
+// Start and end are cast, as the id above.
 fn range(input: &mut impl Read) -> io::Result<u64> {
     let size = letter(input)?;
     let start = word(input)? as usize;
@@ -97,15 +88,12 @@ fn with_bytes(answer: u64, bytes: [u8; 4]) -> u64 {
         .fold(answer, |so_far, byte| mix(so_far, u64::from(*byte)))
 }
 
-fn ones(input: &mut impl Read) -> io::Result<u64> {
+// The ones, into as many of the four bytes as are lent.
+fn ones(lent: usize, input: &mut impl Read) -> io::Result<u64>
+    requires { lent ≤ 4 }
+{
     let mut bytes = [255u8; 4];
-    let answer = count_of(bitmap_lists::ones(read_set(input)?, &mut bytes));
-    Ok(with_bytes(answer, bytes))
-}
-
-fn ones_into_one(input: &mut impl Read) -> io::Result<u64> {
-    let mut bytes = [255u8; 4];
-    let answer = count_of(bitmap_lists::ones(read_set(input)?, &mut bytes[..1]));
+    let answer = count_of(bitmap_lists::ones(read_set(input)?, &mut bytes[..lent]));
     Ok(with_bytes(answer, bytes))
 }
 
@@ -113,8 +101,8 @@ fn slices(first: u8, input: &mut impl Read) -> io::Result<u64> {
     match first {
         b'r' => range(input),
         b'l' => list(input),
-        b'o' => ones(input),
-        _ => ones_into_one(input),
+        b'o' => ones(4, input),
+        _ => ones(1, input),
     }
 }
 
@@ -141,7 +129,7 @@ fn run_line(so_far: Counts, input: &mut impl Read, output: &mut impl Write) -> i
 fn main(rt: HostRuntime) -> io::Result<()> {
     let mut input = BufReader::new(rt.alloc(), rt.reader())?;
     let mut output = BufWriter::new(rt.alloc(), io::writer(&rt))?;
-    let mut counts = Counts { right: 0, count: 0 };
+    let mut counts = Counts::default();
     for _ in 0..TURNS {
         if !copy_saying(&mut input, &mut output)? {
             break;

@@ -1,6 +1,6 @@
 -- Lists of ids: which ids a list has, the list of the ids that a test takes, and that list laid over lent bytes. Assumes nothing.
 use Prim.Native.Nat.{ℕ, zero, suc, ◌+◌, ◌<◌, ◌≤◌}
-use mathlib.Core.Path.{◌≡◌, refl, ap, ◌∙◌}
+use mathlib.Core.Path.{◌≡◌, refl, sym, ap, ◌∙◌}
 use mathlib.Core.Bool.{Bool, true, false, ◌&&◌, ◌||◌, cond}
 use mathlib.Core.Logic.{◌⊎◌, inl, inr, ⊎_elim}
 use mathlib.Core.List.{List, [], ◌∷◌, ◌++◌, append-nil, append_assoc}
@@ -8,13 +8,16 @@ use native.Mathlib.Numerals.{add-one}
 use lib.Dec.{eqb, ltb}
 use native.Mathlib.Omega.{arith}
 use borrow.Author.Tests.{eqb-true, eqb-false, eq-eqb, ltb-true, ltb-false, lt-ltb, le-ltb}
-use lib.ListN.{length, get_or, set, length-append, get_or-append}
-use lib.Seq.{drop-cons, set-append_seam, get_or-append_seam}
-use Rattle.std.specs.List.{list_any}
+use lib.ListN.{length, get_or, set, take, drop, length-append, get_or-append}
+use lib.Seq.{set-append_seam, get_or-append_seam}
+use Rattle.std.specs.List.{list_any, filter, range_with_len, enumerate_from}
+use Rattle.std.proofs.lemmas.List.{get_or_default, map-id, take_more, drop_more, length-take-le}
+use Rattle.std.proofs.lemmas.List.Elements.{filter-append}
+use Rattle.std.proofs.lemmas.List.FromFn.{map-range_with_len_more, length-enumerate_from, get_or-enumerate_from}
 use Rattle.std.proofs.lemmas.List.Folds.{list_any-append}
 use Rattle.bitmap.specs.Sets.{one, count_where}
 use Rattle.bitmap.specs.Bitmaps.{bitmap_of, bitmap_where}
-use Rattle.bitmap.specs.Operations.{listed, ids_below, laid_over}
+use Rattle.bitmap.specs.Operations.{listed, ids_below}
 use Rattle.bitmap.proofs.Laws.{ids_where-same}
 
 -- ---- the ids below n that a test takes, as a list
@@ -28,17 +31,32 @@ length-ids_below p (suc n) = simp (length-append, length-ids_below p n) (ap (λ 
     last true = refl
     last false = refl
 
--- an id written behind the ids that are laid over the bytes
-laid_next : (x : Bool) (ids bytes : List ℕ) (i : ℕ) → length ids + one x ≤ length bytes → cond x (set (laid_over ids bytes) (length ids) i) (laid_over ids bytes) ≡ laid_over (ids ++ cond x (i ∷ []) []) bytes
-laid_next false ids bytes i h = rw append-nil
-laid_next true ids bytes i h =
-    let room : length ids < length bytes = omega arith in
-    rw (drop-cons bytes (length ids) 0 room, set-append_seam) (simp (append_assoc, length-append, add-one))
+-- they are what the test takes of the ids below n
+range_more : (n : ℕ) → range_with_len 0 (n + 1) ≡ range_with_len 0 n ++ n ∷ []
+range_more n = sym (map-id (range_with_len 0 (n + 1))) ∙ map-range_with_len_more (λ x. x) 0 n n (omega arith) ∙ ap (λ (xs : List ℕ). xs ++ n ∷ []) (map-id (range_with_len 0 n))
 
--- one turn of the writing
-pub laid_more : (p : ℕ → Bool) (i : ℕ) (bytes : List ℕ) → count_where p i + one (p i) ≤ length bytes → cond (p i) (set (laid_over (ids_below p i) bytes) (count_where p i) i) (laid_over (ids_below p i) bytes) ≡ laid_over (ids_below p (i + 1)) bytes
+pub filter-range : (p : ℕ → Bool) (n : ℕ) → filter p (range_with_len 0 n) ≡ ids_below p n
 unfolding ids_below
-laid_more p i bytes h = rw (add-one, ← length-ids_below p i) (laid_next (p i) (ids_below p i) bytes i (rw (length-ids_below p i) h))
+filter-range p zero = refl
+filter-range p (suc n) =
+    ap (λ (k : ℕ). filter p (range_with_len 0 k)) (sym (add-one n)) ∙ ap (filter p) (range_more n) ∙ filter-append p (range_with_len 0 n) (n ∷ [])
+    ∙ ap (λ (xs : List ℕ). xs ++ cond (p n) (n ∷ []) []) (filter-range p n)
+
+-- the next id written behind those that are laid over the bytes
+put : (xs ys : List ℕ) (y id k : ℕ) → length xs ≡ k → set (xs ++ y ∷ ys) k id ≡ xs ++ id ∷ ys
+put xs ys y id k e = rw (← e) (set-append_seam xs y ys id)
+
+pub laid_next : (ids bytes : List ℕ) (k : ℕ) → k < length ids → length ids ≤ length bytes → set (take k ids ++ drop k bytes) k (get_or ids k 0) ≡ take (k + 1) ids ++ drop (k + 1) bytes
+laid_next ids bytes k h room =
+    let here : k < length bytes = omega arith in
+    rw (drop_more bytes k 0 here, take_more ids k 0 h, append_assoc) (put (take k ids) (drop (k + 1) bytes) (get_or bytes k 0) (get_or ids k 0) k (length-take-le k ids (omega arith)))
+
+-- the id that comes at a place of the list with its places is the list's
+pub its_place : (ids : List ℕ) (k at id : ℕ) → (k < length (enumerate_from 0 ids)) × ((at, id) ≡ get_or (enumerate_from 0 ids) k (at, id)) → (k < length ids) × (at ≡ k) × (id ≡ get_or ids k 0)
+its_place ids k at id h =
+    let l : k < length ids = rw (← length-enumerate_from 0 ids) h.0 in
+    let e : (at, id) ≡ (0 + k, get_or ids k id) = h.1 ∙ get_or-enumerate_from 0 ids k (at, id) l in
+    (l, omega (arith, ap (λ (x : ℕ × ℕ). x.0) e), ap (λ (x : ℕ × ℕ). x.1) e ∙ get_or_default ids k id 0 l)
 
 -- an id more at the end, or none
 listed-if : (x : Bool) (ids : List ℕ) (id i : ℕ) → listed (ids ++ cond x (id ∷ []) []) i ≡ (x && eqb i id || listed ids i)

@@ -1,9 +1,9 @@
 // The calls of module 1 over a slice of ids: a set from a list of ids, and the ids of a set written into lent bytes.
 #![tactic(auto)]
 
-ghost use Rattle.std.specs.Prelude.{◌≡◌, cond, ◌+◌, ◌<◌, ◌≤◌, length, set};
-ghost use Rattle.bitmap.specs.Sets.{one, count_where};
-ghost use Rattle.bitmap.specs.Bitmaps.{capacity, is_one};
+ghost use Rattle.std.specs.Prelude.{◌≡◌, ◌≤◌, length};
+ghost use Rattle.bitmap.specs.Sets.{count_where};
+ghost use Rattle.bitmap.specs.Bitmaps.{is_one};
 ghost use Rattle.bitmap.specs.Operations.{outside, listed, from_ids_of, ids_below, laid_over, ones_of, bytes_after_ones};
 
 use bitmap::{Bitmap, BitmapError, check_size, is_one};
@@ -34,27 +34,16 @@ pub fn from_ids(size: u8, ids: &[u8]) -> Result<Bitmap, BitmapError>
     build(size, |i| is_listed(ids, i))
 }
 
-// Writes the id i at the place `at` if it is a one of b; gives the next place.
-fn write_one(b: Bitmap, i: u8, at: usize, out: &mut [u8]) -> usize
-    requires { at + one (is_one b i) ≤ length out.old }
-    ensures value { result ≡ at + one (is_one b i) }
-    ensures out_after { out.new ≡ cond (is_one b i) (set out.old at i) out.old }
-{
-    if is_one(b, usize::from(i)) {
-        out[at] = i;
-        return at + 1;
-    }
-    at
-}
-
 // Writes the ids of the ones of b, ascending, from the start of the slice.
 fn write_ones(b: Bitmap, out: &mut [u8])
     requires { count_where (is_one b) b.size ≤ length out.old }
     ensures { out.new ≡ laid_over (ids_below (is_one b) b.size) out.old }
 {
-    let mut at = 0;
-    for i in 0..b.size {
-        at = write_one(b, i, at, out);
+    for (at, i) in (0..b.size)
+        .filter(|i| is_one(b, usize::from(*i)))
+        .enumerate()
+    {
+        out[at] = i;
     }
 }
 

@@ -9,14 +9,14 @@ ghost use Rattle.bitmap_pass.specs.Tests.{Computes, chosen_where, chosen_with};
 
 use bitmap::{Bitmap, BitmapError, check_size, is_one, none, with_id};
 
-// The ids that a pass takes: as a set, and how many.
+// The ids that a pass takes: as a set, and how many. Both come of the one pass, so that no caller needs a second.
 #[derive(Clone, Copy)]
 pub struct Chosen {
     pub set: Bitmap,
     pub count: u8,
 }
 
-// One id more, above all that were chosen: the id i, if on.
+// Adds the id i, which is above all that were chosen, if `on`: `bitmap::with_id`, with its bounds, and the count.
 fn chosen_with(chosen: Chosen, on: bool, i: usize) -> Chosen
     requires i_lt_capacity { i < capacity }
     requires set_bound { number chosen.set < 2 ^ i }

@@ -27,7 +27,7 @@ pub fn union(b: Bitmap, other: Bitmap) -> Result<Bitmap, BitmapError>
     build(b.size, |i| is_one(b, i) || is_one(other, i))
 }
 
-// Whether every one of the other set is a one of b.
+// Whether every one of the other set is a one of b. By the one pass, since the definition counts the missing ids.
 pub fn is_superset(b: Bitmap, other: Bitmap) -> Result<bool, BitmapError>
     ensures { result ≡ is_superset_of b other }
 {

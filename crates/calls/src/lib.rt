@@ -11,7 +11,7 @@ use bitmap::Bitmap;
 use drift::Clock;
 use drift_floats::quotient;
 use fired_order::fired_timers;
-use lease::{Advanced, Answered, Manager, Refusal};
+use lease::{Advanced, Answered, Manager, Passed, Refusal};
 use passes::{is_named, pass_over};
 use quiet::{quiet_at, quiet_end, quiet_fires};
 use record_check::CheckedManager;
@@ -23,13 +23,10 @@ use timer::{Reading, drift_of};
 pub fn answered<T>(m: Manager, done: Result<Answered<T>, Refusal>) -> Answered<T>
     ensures { result ≡ answered m done }
 {
-    match done {
-        Ok(answer) => answer,
-        Err(refusal) => Answered {
-            outcome: Err(refusal),
-            manager: m,
-        },
-    }
+    done.unwrap_or_else(|refusal| Answered {
+        outcome: Err(refusal),
+        manager: m,
+    })
 }
 
 // The quiet timer is armed for the drifted 2T, replacing an earlier one.
@@ -51,15 +48,18 @@ pub fn advance_to(checked: CheckedManager, to: Reading) -> Answered<Advanced>
     ensures { result ≡ advance_to checked.manager to }
 {
     let m = checked.manager;
-    let passed = pass_over(|_, row| advance_row(to, row), m.me, m.population, m.peers);
+    let Passed {
+        peers,
+        first: sent,
+        second: held,
+        ..
+    } = pass_over(&m, |_, row| advance_row(to, row));
     let advanced = Advanced {
-        sent: passed.first,
-        held: passed.second,
+        sent,
+        held,
         quiet_end: quiet_end(quiet_fires(to, m.quiet_timer), m.me, m.population),
-        fired: fired_timers(m.peers, passed.first, passed.second),
+        fired: fired_timers(m.peers, sent, held),
     };
-    // By a local: an array is not taken over from one struct's field into another's at once.
-    let peers = passed.peers;
     Answered {
         outcome: Ok(advanced),
         manager: Manager {
@@ -71,7 +71,7 @@ pub fn advance_to(checked: CheckedManager, to: Reading) -> Answered<Advanced>
     }
 }
 
-// T is drifted once for all peers.
+// Extends the promises to the marked peers that the set names. T is drifted once for all of them.
 #[tactic(auto, unfolding(lease::specs::Calls::attempt_refresh, crate::specs::Fits::NearRows))]
 pub fn refresh(checked: CheckedManager, set: Option<Bitmap>) -> Answered<Bitmap>
     requires { NearRows checked.manager }
@@ -80,11 +80,9 @@ pub fn refresh(checked: CheckedManager, set: Option<Bitmap>) -> Answered<Bitmap>
     let m = checked.manager;
     let by = drift_of(m.clock, m.expire_timeout);
     let rule = |i, row| refresh_row(m.now, by, is_named(set, i), row);
-    let passed = pass_over(rule, m.me, m.population, m.peers);
-    // By a local, as above.
-    let peers = passed.peers;
+    let Passed { peers, first, .. } = pass_over(&m, rule);
     Answered {
-        outcome: Ok(passed.first),
+        outcome: Ok(first),
         manager: Manager { peers, ..m },
     }
 }

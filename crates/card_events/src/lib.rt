@@ -9,7 +9,7 @@ ghost use Rattle.card_events.specs.Refusals.{card_refusal_number, called};
 
 use bitmap::Bitmap;
 use host_cards::{CallC, is_flag, lease_notice_of};
-use lease::{Bar, LeaseMsg, LeaseNotice, LeaseNum, Line, Lines, Refusal, ReplicaId};
+use lease::{Bar, FiredTimers, LeaseMsg, LeaseNotice, LeaseNum, Line, Lines, Refusal, ReplicaId};
 use timer::Reading;
 
 // What set-up is handed: `new_and_setup`'s arguments.
@@ -30,7 +30,7 @@ pub enum Event {
     Notice(LeaseNum, LeaseNotice),
 }
 
-// Why a card is refused. No messages and no Error: document 02 prints a refusal as its number, and `lease::Refusal` has no Debug.
+// Why a card is refused. No messages: document 02 prints a refusal as its number alone.
 #[derive(Clone, Copy, PartialEq, Eq)]
 pub enum CardRefusal {
     // The line is not six columns of numbers.
@@ -44,7 +44,8 @@ pub enum CardRefusal {
 }
 
 impl CardRefusal {
-    // The number that the refusal's output line has.
+    // The number that the refusal's output line has. A match of its own: a trait for the refusals would have one law, by a
+    // definition for each type, and nothing takes a refusal of any type.
     pub fn number(self) -> u8
         ensures { result ≡ card_refusal_number self }
     {
@@ -72,8 +73,8 @@ pub enum CardGiven {
     Done,
     // A notice's actions.
     Acted(Lines),
-    // The active number, under which timers fire, and the quiet-end line.
-    Fired(LeaseNum, Option<Line>),
+    // The active number, under which timers fire, those that fired, and the quiet-end line.
+    Fired(LeaseNum, FiredTimers, Option<Line>),
 }
 
 // ---- which numbers are a card: refusal 22
@@ -90,13 +91,11 @@ fn is_zero(a: u64, b: u64) -> bool
 fn is_set(size: u64, first: u64) -> bool
     ensures { result ≡ is_set size first }
 {
-    if size > 64 {
-        return false;
+    match size {
+        0..=63 => first >> size == 0,
+        64 => true,
+        _ => false,
     }
-    if size == 64 {
-        return true;
-    }
-    first >> size == 0
 }
 
 // A message's kind, in size, and its first.
@@ -166,7 +165,7 @@ pub fn event_of(c: CallC) -> Event
     ensures { result ≡ event_of c }
 {
     match c.code {
-        // `as`: Rust has no `From` between u64 and usize, which here have the same numbers.
+        // `as`: Rust has no `From` from u64 to usize, and `try_from` brings an error that cannot come.
         1 => Event::SetUp(SetUpCall {
             me: c.peer as usize,
             population: c.size as usize,
@@ -179,7 +178,7 @@ pub fn event_of(c: CallC) -> Event
     }
 }
 
-// ---- the card of an event
+// ---- the card of an event: six numbers (document 02), so a flag or a kind stands beside its value. Ids are cast, as above
 
 // A card of those numbers.
 pub fn six(code: u64, number: u64, peer: u64, size: u64, first: u64, second: u64) -> CallC

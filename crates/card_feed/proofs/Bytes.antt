@@ -60,12 +60,12 @@ unfolding room_of line_given partial_read card_given refused_card given_by
 room_of_line r = go (eqb r.partial.filled 73) refl
   where
     go : (t : Bool) → eqb r.partial.filled 73 ≡ t → room_of (line_given r).outcome ≤ 123 * (held r + 1)
-    go true e = omega (arith, eqb-true r.partial.filled 73 e, (fits 0 (line_given r).outcome (line_given r).fired).1)
+    go true e = omega (arith, eqb-true r.partial.filled 73 e, (fits 0 (line_given r).outcome).1)
     go false e = rw e (omega arith)
 
 line_room : (r : Replay) → length (ended_text r) ≤ 123 * (held r + 1)
 unfolding given_text
-line_room r = let a = line_given r in omega (arith, (fits a.session.cards a.outcome a.fired).0, room_of_line r)
+line_room r = let a = line_given r in omega (arith, (fits a.session.cards a.outcome).0, room_of_line r)
 
 -- what a chunk prints and holds
 pub chunk_room : (r : Replay) (bs : List ℕ) → length (feed_text r bs) + 123 * held (feed_next r bs) ≤ 123 * (held r + length bs)
@@ -94,7 +94,7 @@ last_room s = omega arith
 
 pub last_length : (s : Session) → length (given_text (card_given s (Err NotOfForm))) ≤ 70
 unfolding given_text
-last_length s = let a = card_given s (Err NotOfForm) in omega (arith, (fits a.session.cards a.outcome a.fired).0, last_room s)
+last_length s = let a = card_given s (Err NotOfForm) in omega (arith, (fits a.session.cards a.outcome).0, last_room s)
 
 pub last_laid : (s : Session) (xs : List ℕ) → 70 ≤ length xs → sets xs 0 (given_text (card_given s (Err NotOfForm))) ≡ laid (given_text (card_given s (Err NotOfForm))) xs
 last_laid s xs h = sets-laid xs (given_text (card_given s (Err NotOfForm))) (omega (arith, last_length s))

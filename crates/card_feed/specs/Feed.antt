@@ -14,7 +14,7 @@ use Rattle.card_feed.specs.declared.Replay.{Replay}
 
 -- The lines of a card's answer. A card's number is how many cards there were with it.
 unfoldable pub given_text : CardAnswer → List ℕ
-given_text a = outcome_text a.session.cards a.outcome a.fired
+given_text a = outcome_text a.session.cards a.outcome
 
 -- What is left of a line that has no newline: nothing, or a line that is not of the form.
 abbrev pub rest_text : Session → List ℕ → List ℕ

@@ -45,6 +45,7 @@ pub fn blank_replay() -> Replay
     }
 }
 
+// `value` and `out_after`, the two clauses of each function here that writes, are those of card_lines, and stand at each as there.
 impl Replay {
     // The line ends: its card is taken, and what it gives is written at the start of the bytes. Answers how many bytes
     // that is.
@@ -58,7 +59,7 @@ impl Replay {
         let answer = take_card(self.session, self.partial.read());
         self.partial.filled = 0;
         self.session = answer.session;
-        put_outcome(out, answer.session.cards, answer.outcome, answer.fired)
+        put_outcome(out, answer.session.cards, answer.outcome)
     }
 
     // All bytes of a chunk that has room.
@@ -112,6 +113,6 @@ impl Replay {
             return 0;
         }
         let answer = take_card(self.session, Err(CardRefusal::NotOfForm));
-        put_outcome(out, answer.session.cards, answer.outcome, answer.fired)
+        put_outcome(out, answer.session.cards, answer.outcome)
     }
 }

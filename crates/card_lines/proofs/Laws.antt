@@ -11,7 +11,6 @@ use borrow.Author.Tests.{eqb-true}
 use Rattle.lease.specs.declared.Line.{Line}
 use Rattle.lease.specs.declared.Lines.{Lines}
 use Rattle.lease.specs.declared.Lines.TheVariants as L
-use Rattle.lease.specs.declared.FiredTimers.{FiredTimers}
 use Rattle.std.specs.List.{between}
 use Rattle.columns.specs.Columns.{places, column, max_number, number_of}
 use Rattle.columns.proofs.Laws.{written-is-read as column-read, part-written}
@@ -125,15 +124,15 @@ quiet-few None = omega arith
 quiet-few (Some line) = omega arith
 
 outcome-few :
-    (card : ℕ) (outcome : Result CardGiven CardRefusal) (fired : FiredTimers)
-    → (70 * length (outcome_lines card outcome fired) ≤ room_of outcome) × (room_of outcome ≤ 9030)
+    (card : ℕ) (outcome : Result CardGiven CardRefusal)
+    → (70 * length (outcome_lines card outcome) ≤ room_of outcome) × (room_of outcome ≤ 9030)
 unfolding outcome_lines room_of
-outcome-few card (Err k) fired = (omega arith, omega arith)
-outcome-few card (Ok O.Done) fired = (omega arith, omega arith)
-outcome-few card (Ok (O.Acted lines)) fired = (omega (arith, actions-few lines), omega arith)
-outcome-few card (Ok (O.Fired num end)) fired =
+outcome-few card (Err k) = (omega arith, omega arith)
+outcome-few card (Ok O.Done) = (omega arith, omega arith)
+outcome-few card (Ok (O.Acted lines)) = (omega (arith, actions-few lines), omega arith)
+outcome-few card (Ok (O.Fired num fired end)) =
     let q = quiet-few end in
     (simp (length-append, length-fired, length-take) (omega arith), omega arith)
 
 pub fits : Fits
-fits card outcome fired = rw (length-text (outcome_lines card outcome fired)) (outcome-few card outcome fired)
+fits card outcome = rw (length-text (outcome_lines card outcome)) (outcome-few card outcome)

@@ -1,5 +1,5 @@
 -- The text of output lines: how long it is, and how it is laid over bytes line by line. Assumes nothing.
-use Rattle.std.proofs.Common.{◌≡◌, refl, sym, ap, ℕ, suc, ◌+◌, ◌*◌, ◌≤◌, ◌<◌, min, List, [], ◌∷◌, ◌++◌, length, take, drop, get_or, append_assoc, arith, length-append, length-take-le, length-drop, ◌-◌}
+use Rattle.std.proofs.Common.{◌≡◌, refl, sym, ap, ℕ, suc, ◌+◌, ◌*◌, ◌≤◌, ◌<◌, List, [], ◌∷◌, ◌++◌, length, take, drop, get_or, append_assoc, arith, length-append, length-take-le, length-drop, ◌-◌}
 use borrow.Rule.Slice.PartMut.{put_mid}
 use Rattle.std.proofs.lemmas.List.{take_all, drop_all}
 use mathlib.Core.List.{append-nil}
@@ -87,9 +87,9 @@ unfolding fired_lines
 length-fired num [] = refl
 length-fired num (t ∷ ts) = ap suc (length-fired num ts)
 
--- 70 bytes for each timer have room for the first k of them
-pub fired_room : (num : ℕ) (ts : List FiredTimer) (k : ℕ) → length (text_of (fired_lines num (take k ts))) ≤ 70 * k
-fired_room num ts k = rw (length-text (fired_lines num (take k ts)), length-fired num (take k ts), length-take) (omega arith)
+-- 70 bytes for each timer
+pub fired_length : (num : ℕ) (ts : List FiredTimer) → length (text_of (fired_lines num ts)) ≡ length ts * 70
+fired_length num ts = rw (length-text (fired_lines num ts), length-fired num ts) (omega arith)
 
 pub fired_end : (num : ℕ) (f : FiredTimers) → length (text_of (fired_lines num (listed_in f))) ≤ 8960
-fired_end num f = omega (arith, fired_room num f.timers (min f.count 128))
+fired_end num f = rw (fired_length num (listed_in f), length-take) (omega arith)

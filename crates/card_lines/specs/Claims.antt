@@ -1,7 +1,6 @@
 -- What is claimed of output lines. Each claim is proved in proofs/Laws.antt under the same name in small letters. Statements only.
 use Rattle.std.specs.Prelude.{ℕ, ◌≤◌, ◌≡◌, List, length, Some, Result}
 use Rattle.columns.specs.Columns.{max_number}
-use Rattle.lease.specs.declared.FiredTimers.{FiredTimers}
 use Rattle.host_lines.specs.declared.LineC.{LineC}
 use Rattle.card_events.specs.declared.CardGiven.{CardGiven}
 use Rattle.card_events.specs.declared.CardRefusal.{CardRefusal}
@@ -22,5 +21,5 @@ ReadIsWritten = (line : List ℕ) (l : LineC) → line_read line ≡ Some l → 
 -- What a card gives has room where `room_of` says.
 abbrev pub Fits : Type 0
 Fits =
-    (card : ℕ) (outcome : Result CardGiven CardRefusal) (fired : FiredTimers)
-    → (length (outcome_text card outcome fired) ≤ room_of outcome) × (room_of outcome ≤ 9030)
+    (card : ℕ) (outcome : Result CardGiven CardRefusal)
+    → (length (outcome_text card outcome) ≤ room_of outcome) × (room_of outcome ≤ 9030)

@@ -6,7 +6,6 @@ use Rattle.lease.specs.declared.Line.{Line}
 use Rattle.lease.specs.declared.Lines.{Lines}
 use Rattle.lease.specs.declared.Lines.TheVariants as L
 use Rattle.lease.specs.declared.FiredTimer.{FiredTimer}
-use Rattle.lease.specs.declared.FiredTimers.{FiredTimers}
 use Rattle.lease.specs.Fired.{listed_in}
 use Rattle.columns.specs.Columns.{column, number_of}
 use Rattle.host_lines.specs.declared.LineC.{LineC}
@@ -60,21 +59,21 @@ quiet_lines None = []
 quiet_lines (Some line) = action_line line
 
 -- 20 a refused card: first is the refusal, second the card's number. Set-up prints nothing.
-unfoldable pub outcome_lines : ℕ → Result CardGiven CardRefusal → FiredTimers → List LineC
-outcome_lines card (Err k) fired = line_c 20 0 0 (card_refusal_number k) card ∷ []
-outcome_lines card (Ok O.Done) fired = []
-outcome_lines card (Ok (O.Acted lines)) fired = action_lines lines
-outcome_lines card (Ok (O.Fired num end)) fired = fired_lines num.0 (listed_in fired) ++ quiet_lines end
+unfoldable pub outcome_lines : ℕ → Result CardGiven CardRefusal → List LineC
+outcome_lines card (Err k) = line_c 20 0 0 (card_refusal_number k) card ∷ []
+outcome_lines card (Ok O.Done) = []
+outcome_lines card (Ok (O.Acted lines)) = action_lines lines
+outcome_lines card (Ok (O.Fired num fired end)) = fired_lines num.0 (listed_in fired) ++ quiet_lines end
 
-abbrev pub outcome_text : ℕ → Result CardGiven CardRefusal → FiredTimers → List ℕ
-outcome_text card outcome fired = text_of (outcome_lines card outcome fired)
+abbrev pub outcome_text : ℕ → Result CardGiven CardRefusal → List ℕ
+outcome_text card outcome = text_of (outcome_lines card outcome)
 
 -- How many bytes have room for them: 70 for each line that can come.
 unfoldable pub room_of : Result CardGiven CardRefusal → ℕ
 room_of (Err k) = 70
 room_of (Ok O.Done) = 0
 room_of (Ok (O.Acted lines)) = 210
-room_of (Ok (O.Fired num end)) = 9030
+room_of (Ok (O.Fired num fired end)) = 9030
 
 -- ---- writing a line by itself
 

@@ -9,16 +9,17 @@ ghost use Rattle.card_lines.specs.Lines.{line_text, text_of, laid, fired_line, f
 
 use card_events::{CardGiven, CardRefusal};
 use columns::{number_of, put_column};
-use host_lines::{LineC, line_of};
+use host_lines::{LineC, line_c, line_of};
 use lease::{FiredTimer, FiredTimers, Line, Lines};
 
 // How long a line is.
 const COLUMNS: usize = 69;
 
 // And with its newline.
-pub const LINE: usize = 70;
+pub const LINE: usize = COLUMNS + 1;
 
-// ---- writing: each puts its lines at the start of the bytes, and answers how many bytes they are
+// ---- writing: each puts its lines at the start of `out`, and answers how many bytes they are; two clauses say so at each. A struct of
+// the bytes and a place is no plainer: its methods need both clauses too, and so does the public put_outcome
 
 // A line with its newline. Column by column, as `card_line` of `cards` does with six: one walk over a table of widths for both is
 // no plainer, since each column has a name.
@@ -55,29 +56,22 @@ fn put_line(out: &mut [u8], l: LineC) -> usize
 fn fired_line(num: u64, t: FiredTimer) -> LineC
     ensures { result ≡ fired_line num t }
 {
-    LineC {
-        code: if t.held { 15 } else { 14 },
-        number: num,
-        peer: u64::from(t.id),
-        first: 0,
-        second: 0,
-    }
+    line_c(if t.held { 15 } else { 14 }, num, u64::from(t.id), 0)
 }
 
 // The timers that fired, in the order of their list.
-#[tactic(auto, using(crate::proofs::Text::laid_behind, crate::proofs::Text::fired_next, crate::proofs::Text::fired_room), unfolding(crate::specs::Lines::fired_lines, crate::specs::Lines::text_of))]
+#[tactic(auto, using(crate::proofs::Text::fired_length), unfolding(crate::specs::Lines::fired_lines, crate::specs::Lines::text_of))]
 fn put_fired(out: &mut [u8], num: u64, fired: FiredTimers) -> usize
     requires { 8960 ≤ length out.old }
     ensures value { result ≡ length (text_of (fired_lines num (listed_in fired))) }
     ensures out_after { out.new ≡ laid (text_of (fired_lines num (listed_in fired))) out.old }
 {
-    // Stepped by hand: each turn writes behind what is written, which no iterator says plainer.
-    let mut end: usize = 0;
+    // By places. Tried: `chunks_exact_mut`; std's contract does not say what the bytes are afterwards, so the proof did not close.
     let listed = &fired.timers[..fired.count.min(128)];
-    for timer in listed {
-        end += put_line(&mut out[end..], fired_line(num, *timer));
+    for (i, timer) in listed.iter().enumerate() {
+        put_line(&mut out[i * LINE..], fired_line(num, *timer));
     }
-    end
+    listed.len() * LINE
 }
 
 // A notice's actions, in order.
@@ -118,30 +112,22 @@ fn put_quiet_end(out: &mut [u8], end: Option<Line>) -> usize
 
 // The lines of what the card of that number gives.
 #[tactic(auto, using(crate::proofs::Text::text_of_one, crate::proofs::Text::laid_behind, crate::proofs::Text::text_of_both, crate::proofs::Text::length_both, crate::proofs::Text::fired_end), unfolding(crate::specs::Lines::room_of, crate::specs::Lines::outcome_lines, crate::specs::Lines::text_of))]
-pub fn put_outcome(
-    out: &mut [u8],
-    card: u64,
-    outcome: Result<CardGiven, CardRefusal>,
-    fired: FiredTimers,
-) -> usize
+pub fn put_outcome(out: &mut [u8], card: u64, outcome: Result<CardGiven, CardRefusal>) -> usize
     requires { room_of outcome ≤ length out.old }
-    ensures value { result ≡ length (outcome_text card outcome fired) }
-    ensures out_after { out.new ≡ laid (outcome_text card outcome fired) out.old }
+    ensures value { result ≡ length (outcome_text card outcome) }
+    ensures out_after { out.new ≡ laid (outcome_text card outcome) out.old }
 {
     match outcome {
         Err(refusal) => {
             let l = LineC {
-                code: 20,
-                number: 0,
-                peer: 0,
-                first: u64::from(refusal.number()),
                 second: card,
+                ..line_c(20, 0, 0, u64::from(refusal.number()))
             };
             put_line(out, l)
         }
         Ok(CardGiven::Done) => 0,
         Ok(CardGiven::Acted(lines)) => put_actions(out, lines),
-        Ok(CardGiven::Fired(num, end)) => {
+        Ok(CardGiven::Fired(num, fired, end)) => {
             let fired_end = put_fired(out, num.0, fired);
             fired_end + put_quiet_end(&mut out[fired_end..], end)
         }
@@ -181,6 +167,7 @@ pub fn read_line(line: &[u8]) -> Option<LineC>
     if line.len() != COLUMNS {
         return None;
     }
+    // The columns as document 02 gives them, by their bounds.
     Some(LineC {
         code: number_of(&line[..2])?,
         number: number_of(&line[2..23])?,

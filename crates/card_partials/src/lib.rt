@@ -8,8 +8,8 @@ ghost use Rattle.card_partials.specs.Partials.{kept_by, partial_read};
 use card_events::{CardRefusal, Event};
 use cards::{COLUMNS, read_event};
 
-// The line so far: how many of its bytes there are, 74 for any number above 73, and its first 73 bytes. Bytes from
-// `filled` on are of no meaning. A count beside the bytes, by the project's rule of fixed memory; no slice's length can be 74.
+// The line so far: how long it is, 74 for any length above 73, and its first 73 bytes; those from `filled` on mean nothing. A
+// count beside an array: there is no heap, and a list's length could not be 74, as the 74th byte is counted but not kept.
 #[derive(Clone, Copy)]
 pub struct Partial {
     pub filled: usize,

@@ -31,6 +31,7 @@ set-up s (Err j) m = refused s (C.Call j)
 set-up s (Ok tt) m = λ k e. cc
 
 advance : (s : Session) (o : Result Advanced Refusal) (m : Manager) → Keeps s (advance_answer s o m)
+unfolding given_by
 advance s (Err j) m = refused s (C.Call j)
 advance s (Ok a) m = λ k e. cc
 

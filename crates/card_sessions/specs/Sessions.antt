@@ -1,6 +1,6 @@
 -- Document 02, wish 1, what a card does: 21 and 22 as the line was read, then 23, then document 01's own refusals and rules, on the
 -- record that the cards before it left. Definitions only.
-use Rattle.std.specs.Prelude.{ℕ, ◌+◌, cond, [], ltb, Option, None, Some, Result, Ok, Err}
+use Rattle.std.specs.Prelude.{ℕ, ◌+◌, cond, ltb, Option, None, Some, Result, Ok, Err}
 use Rattle.columns.specs.Columns.{max_number}
 use Rattle.lease.specs.declared.Refusal.{Refusal}
 use Rattle.lease.specs.declared.Lines.{Lines}
@@ -9,7 +9,6 @@ use Rattle.timer.specs.declared.Reading.{Reading}
 use Rattle.lease.specs.declared.LeaseNum.{LeaseNum}
 use Rattle.lease.specs.declared.LeaseNotice.{LeaseNotice}
 use Rattle.lease.specs.declared.Manager.{Manager}
-use Rattle.lease.specs.Fired.{fired_timers}
 use Rattle.lease.specs.SetUp.{setup_of}
 use Rattle.lease.specs.Rules.{notice_of, advance_of}
 use Rattle.card_events.specs.declared.SetUpCall.{SetUpCall}
@@ -40,18 +39,18 @@ counted s = record { cards = next_card s.cards; manager = s.manager }
 unfoldable pub with_manager : Session → Manager → Session
 with_manager s m = record { cards = s.cards; manager = Some m }
 
--- An outcome with no fired timer.
+-- An outcome, and the session after it.
 unfoldable pub given_by : Result CardGiven CardRefusal → Session → CardAnswer
-given_by outcome s = record { outcome = outcome; fired = fired_timers []; session = s }
+given_by outcome s = record { outcome = outcome; session = s }
 
 -- A refused card changes nothing.
 unfoldable pub refused_card : Session → CardRefusal → CardAnswer
 refused_card s k = given_by (Err k) s
 
--- An answer, or the refusal of a card that changes nothing.
-unfoldable pub answered : Session → Result CardAnswer CardRefusal → CardAnswer
+-- What an event gives, with the session after it; or the refusal of a card that changes nothing.
+unfoldable pub answered : Session → Result (CardGiven × Session) CardRefusal → CardAnswer
 answered s (Err k) = refused_card s k
-answered s (Ok a) = a
+answered s (Ok (g, after)) = given_by (Ok g) after
 
 -- ---- what an event gives, by document 01's rules
 
@@ -67,7 +66,7 @@ set_up_given s u =
 -- Timers fire under the active number.
 abbrev pub advance_answer : Session → Result Advanced Refusal → Manager → CardAnswer
 advance_answer s (Err k) m = refused_card s (C.Call k)
-advance_answer s (Ok a) m = record { outcome = Ok (G.Fired m.active_num a.quiet_end); fired = a.fired; session = with_manager s m }
+advance_answer s (Ok a) m = given_by (Ok (G.Fired m.active_num a.fired a.quiet_end)) (with_manager s m)
 
 unfoldable pub advance_given : Session → Manager → Reading → CardAnswer
 advance_given s before to =

@@ -8,8 +8,7 @@ ghost use Rattle.card_sessions.specs.Sessions.{blank_session, next_card, counted
 
 use card_events::{CardGiven, CardRefusal, Event, SetUpCall};
 use clock_calls::advance;
-use fired_order::no_timers;
-use lease::{FiredTimers, LeaseNotice, LeaseNum, Manager};
+use lease::{LeaseNotice, LeaseNum, Manager};
 use leaseman::add_notice;
 use setup::new_and_setup;
 use timer::Reading;
@@ -21,11 +20,10 @@ pub struct Session {
     pub manager: Option<Manager>,
 }
 
-// What a card gives, the timers that fired (none but by an accepted advance), and the session after it.
+// What a card gives, and the session after it.
 #[derive(Clone, Copy)]
 pub struct CardAnswer {
     pub outcome: Result<CardGiven, CardRefusal>,
-    pub fired: FiredTimers,
     pub session: Session,
 }
 
@@ -58,16 +56,12 @@ fn counted_session(s: Session) -> Session
     }
 }
 
-// An outcome with no timer.
+// An outcome, and the session after it.
 #[tactic(auto, unfolding(crate::specs::Sessions::given_by))]
 fn given(outcome: Result<CardGiven, CardRefusal>, session: Session) -> CardAnswer
     ensures { result ≡ given_by outcome session }
 {
-    CardAnswer {
-        outcome,
-        fired: no_timers(),
-        session,
-    }
+    CardAnswer { outcome, session }
 }
 
 #[tactic(auto, unfolding(crate::specs::Sessions::refused_card))]
@@ -88,48 +82,46 @@ fn with_manager(s: Session, manager: Manager) -> Session
     }
 }
 
-// ---- what an event gives, or why it is refused
+// ---- what an event gives, with the session after it; or why it is refused
 
 #[tactic(auto, unfolding(crate::specs::Sessions::answered, crate::specs::Sessions::set_up_given))]
-fn run_set_up(s: Session, u: SetUpCall) -> Result<CardAnswer, CardRefusal>
+fn run_set_up(s: Session, u: SetUpCall) -> Result<(CardGiven, Session), CardRefusal>
     ensures { answered s result ≡ set_up_given s u }
 {
     let a = new_and_setup(u.me, u.population, u.expire_timeout, u.heartbeat, u.now);
     a.outcome?;
-    Ok(given(Ok(CardGiven::Done), with_manager(s, a.manager)))
+    Ok((CardGiven::Done, with_manager(s, a.manager)))
 }
 
 #[tactic(auto, unfolding(crate::specs::Sessions::answered, crate::specs::Sessions::advance_given))]
-fn run_advance(s: Session, m: Manager, to: Reading) -> Result<CardAnswer, CardRefusal>
+fn run_advance(s: Session, m: Manager, to: Reading) -> Result<(CardGiven, Session), CardRefusal>
     ensures { answered s result ≡ advance_given s m to }
 {
     let a = advance(m, to);
     let advanced = a.outcome?;
-    Ok(CardAnswer {
-        outcome: Ok(CardGiven::Fired(a.manager.active_num, advanced.quiet_end)),
-        fired: advanced.fired,
-        session: with_manager(s, a.manager),
-    })
+    let fired = CardGiven::Fired(a.manager.active_num, advanced.fired, advanced.quiet_end);
+    Ok((fired, with_manager(s, a.manager)))
 }
 
-// Number and notice are the Rust's two arguments.
+// Here and above m is the manager of s, which `run_event` has found there: s alone would ask each to look for it again. Number and
+// notice are the Rust's two arguments.
 #[tactic(auto, unfolding(crate::specs::Sessions::answered, crate::specs::Sessions::notice_given))]
 fn run_notice(
     s: Session,
     m: Manager,
     num: LeaseNum,
     notice: LeaseNotice,
-) -> Result<CardAnswer, CardRefusal>
+) -> Result<(CardGiven, Session), CardRefusal>
     ensures { answered s result ≡ notice_given s m num notice }
 {
     let a = add_notice(m, num, notice);
     let lines = a.outcome?;
-    Ok(given(Ok(CardGiven::Acted(lines)), with_manager(s, a.manager)))
+    Ok((CardGiven::Acted(lines), with_manager(s, a.manager)))
 }
 
 // Set-up comes once, and before all others.
 #[tactic(auto, unfolding(crate::specs::Sessions::answered, crate::specs::Sessions::event_given))]
-fn run_event(s: Session, e: Event) -> Result<CardAnswer, CardRefusal>
+fn run_event(s: Session, e: Event) -> Result<(CardGiven, Session), CardRefusal>
     ensures { answered s result ≡ event_given s s.manager e }
 {
     match (s.manager, e) {
@@ -146,6 +138,8 @@ pub fn take_card(s: Session, read: Result<Event, CardRefusal>) -> CardAnswer
     ensures { result ≡ card_given s read }
 {
     let next = counted_session(s);
-    read.and_then(|e| run_event(next, e))
-        .unwrap_or_else(|refusal| refused_card(next, refusal))
+    match read.and_then(|e| run_event(next, e)) {
+        Ok((outcome, session)) => given(Ok(outcome), session),
+        Err(refusal) => refused_card(next, refusal),
+    }
 }

@@ -15,7 +15,7 @@ use host_cards::CallC;
 pub const COLUMNS: usize = 73;
 
 // And with its newline.
-const CARD: usize = 74;
+const CARD: usize = COLUMNS + 1;
 
 // ---- reading
 
@@ -27,6 +27,7 @@ pub fn read_card(line: &[u8]) -> Option<CallC>
     if line.len() != COLUMNS {
         return None;
     }
+    // The columns as document 02 gives them, by their bounds.
     Some(CallC {
         code: number_of(&line[..2])?,
         number: number_of(&line[2..23])?,

@@ -14,6 +14,7 @@ use record_check::check_record;
 use refusals::check_advance;
 use timer::Reading;
 
+// A function of its own, so that `?` can be used: a closure would say the same one level deeper.
 fn advance_or_refuse(m: Manager, to: Reading) -> Result<Answered<Advanced>, Refusal>
     ensures { result ≡ judged (record_valid m) (advance_refusal m.now to) (λ k. Err k) (Ok (advance_to m to)) }
 {

@@ -1,6 +1,7 @@
 -- A decimal number in fixed columns: how it is written, and how bytes are read. A byte is its ASCII number: 32 a blank, 48 to 57 the
 -- digits. Definitions only.
 use Rattle.std.specs.Prelude.{ℕ, zero, suc, ◌+◌, ◌*◌, ◌-◌, ◌/◌, ◌%◌, Bool, false, cond, List, [], ◌∷◌, ◌++◌, eqb, leb, Option, Some, None}
+use Rattle.std.specs.List.{fold}
 use Rattle.columns.specs.declared.Field.{Field}
 use Rattle.columns.specs.declared.Field.TheVariants as F
 
@@ -52,8 +53,7 @@ field_step F.Bad b = F.Bad
 
 -- Byte by byte from the left.
 unfoldable pub field_from : Field → List ℕ → Field
-field_from f [] = f
-field_from f (b ∷ bs) = field_from (field_step f b) bs
+field_from f bs = fold field_step f bs
 
 abbrev pub field_of : List ℕ → Field
 field_of bs = field_from F.Blank bs

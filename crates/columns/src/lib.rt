@@ -2,8 +2,8 @@
 // what is claimed of them in specs/Claims.
 #![tactic(auto)]
 
-ghost use Rattle.std.specs.Prelude.{◌≡◌, Option, length};
-ghost use Rattle.columns.specs.Columns.{place_byte, places, column, first_byte, next_byte, field_step, number_in, number_of};
+ghost use Rattle.std.specs.Prelude.{◌%◌, ◌≡◌, Option, length};
+ghost use Rattle.columns.specs.Columns.{digit, place_byte, places, column, first_byte, next_byte, field_step, number_in, number_of};
 
 // What the bytes of a field are, read from the left.
 #[derive(Clone, Copy)]
@@ -14,8 +14,8 @@ enum Field {
     Zero,
     // A number above 0.
     Number(u64),
-    // No number of this form, and none can come of it: a state of the reading, in place of an Option around the others,
-    // so that a field is read by one total step.
+    // No number of this form, and none can come of it. A state beside the others: an Option around them is no plainer, since each
+    // step would take it apart and put it back.
     Bad,
 }
 
@@ -79,14 +79,20 @@ impl Field {
 pub fn number_of(columns: &[u8]) -> Option<u64>
     ensures { result ≡ number_of columns.now }
 {
-    let mut field = Field::Blank;
-    for b in columns {
-        field = field.step(*b);
-    }
-    field.number()
+    columns
+        .iter()
+        .fold(Field::Blank, |field, b| field.step(*b))
+        .number()
 }
 
 // ---- writing
+
+// The last digit. By `as`: it is below 10, Rust has no `From` from u64 to u8, and `try_from` brings an error that cannot come.
+fn digit(n: u64) -> u8
+    ensures { result ≡ digit (n % 10) }
+{
+    b'0' + (n % 10) as u8
+}
 
 // The byte of a place before the last: a blank where nothing is left of the number.
 fn place_byte(n: u64) -> u8
@@ -95,8 +101,7 @@ fn place_byte(n: u64) -> u8
     if n == 0 {
         return b' ';
     }
-    // By `as`: below 10, and Rust has no `From` from u64 to u8.
-    b'0' + (n % 10) as u8
+    digit(n)
 }
 
 // Puts n into the places before the last, from the right.
@@ -117,8 +122,7 @@ pub fn put_column(out: &mut [u8], n: u64)
     ensures { out.new ≡ column (length out.old) n }
 {
     if let Some((last, before)) = out.split_last_mut() {
-        // By `as`, as above.
-        *last = b'0' + (n % 10) as u8;
+        *last = digit(n);
         put_places(before, n / 10);
     }
 }

@@ -21,6 +21,7 @@ const LEADING: u64 = 1 << 52;
 pub fn rate(d: i8) -> u64
     ensures { result ≡ rate_of d }
 {
+    // By `as`, here and below: the value fits. `try_from` would bring an error that cannot come, and to a float there is none.
     (100 + i16::from(d)).max(1) as u64
 }
 

@@ -13,7 +13,7 @@
 #![tactic(auto)]
 
 use bitmap::Bitmap;
-use lease::{Bar, LeaseAction, LeaseMsg, Line, Lines, Refusal};
+use lease::{Advanced, Bar, LeaseAction, LeaseMsg, Line, Lines, Refusal};
 use timer::Timer;
 
 // A number in which the order of a and b matters.
@@ -126,7 +126,7 @@ pub fn lines(l: Lines) -> u64 {
 
 // ---- what advance answers
 
-pub fn fired(sent: Bitmap, held: Bitmap, end: Option<Line>) -> u64 {
-    let sets = mix(mix(letter(0, b'f'), sent.bits), held.bits);
-    end.map_or(letter(sets, b'-'), |l| line(sets, l))
+pub fn fired(a: Advanced) -> u64 {
+    let sets = mix(mix(letter(0, b'f'), a.sent.bits), a.held.bits);
+    a.quiet_end.map_or(letter(sets, b'-'), |l| line(sets, l))
 }

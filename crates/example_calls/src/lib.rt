@@ -5,9 +5,11 @@
 //     r SET  attempt_refresh              d PERCENT  set_drift
 #![tactic(auto)]
 
-use example_answers::{done, fired, lines, refused_by, set_of};
+use clock_calls::advance;
+use example_answers::{done, fired, lines, refused_by, set};
 use example_script::{letter, notice, peer_set, word};
-use lease::{Advanced, Answered, LeaseNum, Lines, Manager};
+use lease::{Advanced, Answered, LeaseNotice, LeaseNum, Lines, Manager};
+use leaseman::add_notice;
 use std::io;
 use std::io::Read;
 use timer::Reading;
@@ -18,14 +20,22 @@ pub struct Done {
     pub answer: u64,
 }
 
-fn plain(a: Answered<()>) -> Done {
+// A call's record, and its answer as a number: the refusal's, or what `of` makes of the rest.
+fn answered<T, F: FnOnce(T) -> u64>(a: Answered<T>, of: F) -> Done
+    requires { F.IsAlwaysCallable of }
+{
     Done {
         manager: a.manager,
-        answer: a.outcome.map_or_else(refused_by, |()| done()),
+        answer: a.outcome.map_or_else(refused_by, of),
     }
 }
 
-// The five numbers are those that new_and_setup takes: a struct of them is no plainer.
+fn plain(a: Answered<()>) -> Done {
+    answered(a, |()| done())
+}
+
+// Set-up's five numbers as document 01 hands them; the struct that has them, SetUpCall, is of card_events, on which this crate
+// does not stand.
 fn set_up(me: usize, n: usize, t: u64, heartbeat: u64, now: u64) -> Done {
     plain(setup::new_and_setup(me, n, t, heartbeat, Reading(now)))
 }
@@ -45,32 +55,41 @@ fn read_set_up(input: &mut impl Read) -> io::Result<Done> {
 }
 
 pub fn noticed(a: Answered<Lines>) -> Done {
-    Done {
-        manager: a.manager,
-        answer: a.outcome.map_or_else(refused_by, lines),
-    }
+    answered(a, lines)
 }
 
-fn read_notice(m: Manager, input: &mut impl Read) -> io::Result<Done> {
+// Reads a number and a notice for `add`, which is add_notice by value or over a lent record.
+pub fn read_notice<F: FnOnce(Manager, LeaseNum, LeaseNotice) -> Answered<Lines>>(
+    m: Manager,
+    input: &mut impl Read,
+    add: F,
+) -> io::Result<Done>
+    requires { F.IsAlwaysCallable add }
+{
     let num = LeaseNum(word(input)?);
-    Ok(noticed(leaseman::add_notice(m, num, notice(input)?)))
+    let notice = notice(input)?;
+    Ok(noticed(add(m, num, notice)))
 }
 
 pub fn advanced(a: Answered<Advanced>) -> Done {
-    Done {
-        manager: a.manager,
-        answer: a
-            .outcome
-            .map_or_else(refused_by, |x| fired(x.sent, x.held, x.quiet_end)),
-    }
+    answered(a, fired)
+}
+
+// Reads a reading for `to`, which is advance by value or over a lent record.
+pub fn read_advance<F: FnOnce(Manager, Reading) -> Answered<Advanced>>(
+    m: Manager,
+    input: &mut impl Read,
+    to: F,
+) -> io::Result<Done>
+    requires { F.IsAlwaysCallable to }
+{
+    let now = Reading(word(input)?);
+    Ok(advanced(to(m, now)))
 }
 
 fn refresh(m: Manager, input: &mut impl Read) -> io::Result<Done> {
     let a = outer_calls::attempt_refresh(m, peer_set(input)?);
-    Ok(Done {
-        manager: a.manager,
-        answer: set_of(a.outcome),
-    })
+    Ok(answered(a, set))
 }
 
 // The settings of the examples, those below 0 without their sign.
@@ -81,10 +100,6 @@ fn percent(input: &mut impl Read) -> io::Result<i8> {
         100 => -100,
         _ => 127,
     })
-}
-
-fn read_advance(m: Manager, input: &mut impl Read) -> io::Result<Done> {
-    Ok(advanced(clock_calls::advance(m, Reading(word(input)?))))
 }
 
 fn set_drift(m: Manager, d: i8) -> Done {
@@ -108,8 +123,8 @@ fn perform_outer(m: Manager, letter: u8, input: &mut impl Read) -> io::Result<Do
 pub fn perform(m: Manager, letter: u8, input: &mut impl Read) -> io::Result<Done> {
     match letter {
         b's' => read_set_up(input),
-        b'n' => read_notice(m, input),
-        b'a' => read_advance(m, input),
+        b'n' => read_notice(m, input, add_notice),
+        b'a' => read_advance(m, input, advance),
         _ => perform_outer(m, letter, input),
     }
 }

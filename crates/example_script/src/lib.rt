@@ -7,6 +7,7 @@
 
 mod notices;
 
+use bitmap::Bitmap;
 use example_answers::mix;
 pub use notices::{notice, peer_set};
 use std::io::{Read, Write};
@@ -16,7 +17,7 @@ use std::{fmt, io};
 const TURNS: usize = 1000;
 
 // How many lines are run, and how many of them are ok.
-#[derive(Clone, Copy)]
+#[derive(Clone, Copy, Default)]
 pub struct Counts {
     pub right: u64,
     pub count: u64,
@@ -24,8 +25,7 @@ pub struct Counts {
 
 impl fmt::Display for Counts {
     fn fmt<W: fmt::Write>(&self, f: &mut fmt::Formatter<W>) -> fmt::Result {
-        let Counts { right, count } = *self;
-        write!(f, "{right} of {count} lines ok")
+        write!(f, "{} of {} lines ok", self.right, self.count)
     }
 }
 
@@ -43,7 +43,7 @@ fn byte(input: &mut impl Read) -> io::Result<Option<u8>> {
 
 // Writes what document 01 says, but for the `|` after it, and answers whether there was a line.
 pub fn copy_saying(input: &mut impl Read, output: &mut impl Write) -> io::Result<bool> {
-    // A flag beside the loop: what is written is no value that an iterator could answer.
+    // A flag beside the loop: whether a byte came is known only after the first turn.
     let mut is_line = false;
     for next in input.by_ref().bytes().take(TURNS) {
         is_line = true;
@@ -83,8 +83,20 @@ pub fn word(input: &mut impl Read) -> io::Result<u64> {
 
 // The next word of a call, a letter or a number below 256.
 pub fn letter(input: &mut impl Read) -> io::Result<u8> {
-    // By `as`: Rust has no `From` from u64 to u8.
+    // By `as`: Rust has no `From` from u64 to u8, and `try_from` brings an error that cannot come.
     Ok((word(input)? % 256) as u8)
+}
+
+// The next word of a call, 1 or 0.
+pub fn read_flag(input: &mut impl Read) -> io::Result<bool> {
+    Ok(word(input)? == 1)
+}
+
+// The next two words of a call, SIZE NUMBER.
+pub fn read_set(input: &mut impl Read) -> io::Result<Bitmap> {
+    let size = letter(input)?;
+    let bits = word(input)?;
+    Ok(Bitmap { size, bits })
 }
 
 // The answer of the line, all its words in one number.

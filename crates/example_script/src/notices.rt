@@ -4,7 +4,7 @@
 // of a set: `a`, no set; `o SIZE NUMBER`
 // of a bar: `n`, none; `b BAR`
 // of a message: g BAR Guard, G GuardReply, p Promise, P 0 or 1 PromiseReply, r Revoke, R 0 or 1 RevokeReply
-use crate::{letter, word};
+use crate::{letter, read_flag, read_set, word};
 use bitmap::Bitmap;
 use lease::{Bar, LeaseMsg, LeaseNotice};
 use std::io;
@@ -14,9 +14,7 @@ pub fn peer_set(input: &mut impl Read) -> io::Result<Option<Bitmap>> {
     if letter(input)? == b'a' {
         return Ok(None);
     }
-    let size = letter(input)?;
-    let bits = word(input)?;
-    Ok(Some(Bitmap { size, bits }))
+    Ok(Some(read_set(input)?))
 }
 
 fn bar(input: &mut impl Read) -> io::Result<Option<Bar>> {
@@ -26,18 +24,14 @@ fn bar(input: &mut impl Read) -> io::Result<Option<Bar>> {
     Ok(Some(Bar(word(input)?)))
 }
 
-fn flag(input: &mut impl Read) -> io::Result<bool> {
-    Ok(word(input)? == 1)
-}
-
 fn message(input: &mut impl Read) -> io::Result<LeaseMsg> {
     Ok(match letter(input)? {
         b'g' => LeaseMsg::Guard(bar(input)?),
         b'G' => LeaseMsg::GuardReply,
         b'p' => LeaseMsg::Promise,
-        b'P' => LeaseMsg::PromiseReply(flag(input)?),
+        b'P' => LeaseMsg::PromiseReply(read_flag(input)?),
         b'r' => LeaseMsg::Revoke,
-        _ => LeaseMsg::RevokeReply(flag(input)?),
+        _ => LeaseMsg::RevokeReply(read_flag(input)?),
     })
 }
 
@@ -46,7 +40,7 @@ fn new_grants(input: &mut impl Read) -> io::Result<LeaseNotice> {
     Ok(LeaseNotice::NewGrants(set, bar(input)?))
 }
 
-// The id is cast: Rust has no `From` between usize and u64.
+// Here and below ids are cast: Rust has no `From` between usize and u64.
 fn received(input: &mut impl Read) -> io::Result<LeaseNotice> {
     let id = word(input)? as usize;
     Ok(LeaseNotice::RecvLeaseMsg(id, message(input)?))

@@ -1,4 +1,5 @@
-// Any notice about one peer on that peer's row: which handler it goes to, and the timer for it.
+// Any notice about one peer on that peer's row: which handler it goes to, and the timer for it. Id, timer and row go to each
+// handler side by side: a struct of them would be made for one call and taken apart in it.
 #![tactic(auto)]
 
 ghost use Rattle.std.specs.Prelude.{◌≡◌};

@@ -20,6 +20,7 @@ pub fn handle_msg_guard(id: ReplicaId, t: Timer, bar: Option<Bar>, row: Peer) ->
         ..row
     };
     let reply = LeaseAction::SendLeaseMsg(id, LeaseMsg::GuardReply);
+    // The rule's two ends, one under the other: `map_or_else` is no plainer.
     match bar {
         None => Handled::one_action(guarded, reply),
         Some(b) => Handled::two_actions(guarded, LeaseAction::GuardAcceptBar(id, b), reply),

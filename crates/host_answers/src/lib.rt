@@ -4,7 +4,7 @@
 
 ghost use Rattle.std.specs.Prelude.{◌≡◌};
 ghost use Rattle.lease.specs.Refusals.{refusal_number};
-ghost use Rattle.host_answers.specs.Answers.{accepted, refused_answer, no_lines, one_line, two_lines, lines_answer, notice_answer, fired_answer, advance_lines, advance_answer, plain_answer, setup_answer, set_answer, count_answer, time_left_answer};
+ghost use Rattle.host_answers.specs.Answers.{accepted, refused_answer, no_lines, one_line, two_lines, lines_answer, notice_answer, fired_answer, with_fired, advance_answer, plain_answer, setup_answer, set_answer, count_answer, time_left_answer};
 ghost use Rattle.host_answers.specs.Refusals.{call_refusal_number, refused_by};
 
 use bitmap::Bitmap;
@@ -35,7 +35,8 @@ pub enum CallRefusal {
 }
 
 impl CallRefusal {
-    // The number that crosses to C.
+    // The number that crosses to C. A match of its own, beside Refusal's and CardRefusal's: a trait for them would have one law, by
+    // a definition for each type, and nothing takes a refusal of any type.
     pub fn number(self) -> u8
         ensures { result ≡ call_refusal_number self }
     {
@@ -68,18 +69,13 @@ fn accepted_with(count: u64, one: LineC, two: LineC, three: LineC) -> AnswerC
 }
 
 // Refused, with no line.
-#[tactic(auto, unfolding(crate::specs::Answers::refused_answer))]
+#[tactic(auto, unfolding(crate::specs::Answers::refused_answer, crate::specs::Answers::no_lines))]
 pub fn refused_answer(refusal: CallRefusal) -> AnswerC
     ensures { result ≡ refused_answer (call_refusal_number refusal) }
 {
-    let none = no_line();
     AnswerC {
         refused: u64::from(refusal.number()),
-        count: 0,
-        one: none,
-        two: none,
-        three: none,
-        fired: no_timers(),
+        ..no_lines()
     }
 }
 
@@ -87,7 +83,7 @@ pub fn refused_answer(refusal: CallRefusal) -> AnswerC
 fn refused_by(refusal: Refusal) -> AnswerC
     ensures { result ≡ refused_answer (refusal_number refusal) }
 {
-    refused_answer(CallRefusal::Refused(refusal))
+    refused_answer(CallRefusal::from(refusal))
 }
 
 // Accepted, with no line.
@@ -135,30 +131,29 @@ pub fn notice_answer(outcome: Result<Lines, Refusal>) -> AnswerC
 
 // What fired, and the quiet-end line after it, if there is one.
 #[tactic(auto, unfolding(crate::specs::Answers::fired_answer))]
-fn fired_answer(sent: Bitmap, held: Bitmap, end: Option<Line>) -> AnswerC
-    ensures { result ≡ fired_answer sent held end }
+fn fired_answer(a: Advanced) -> AnswerC
+    ensures { result ≡ fired_answer a.sent a.held a.quiet_end }
 {
-    let fired = fired_line(sent, held);
-    end.map_or_else(|| one_line(fired), |line| two_lines(fired, line_of(line)))
+    let fired = fired_line(a.sent, a.held);
+    a.quiet_end
+        .map_or_else(|| one_line(fired), |line| two_lines(fired, line_of(line)))
 }
 
-#[tactic(auto, unfolding(crate::specs::Answers::advance_lines))]
-fn advance_lines(outcome: Result<Advanced, Refusal>) -> AnswerC
-    ensures { result ≡ advance_lines outcome }
+// Accepted: what fired, the quiet-end line, and the timers in order.
+fn advanced(a: Advanced) -> AnswerC
+    ensures { result ≡ with_fired (fired_answer a.sent a.held a.quiet_end) a.fired }
 {
-    outcome.map_or_else(refused_by, |a| fired_answer(a.sent, a.held, a.quiet_end))
+    AnswerC {
+        fired: a.fired,
+        ..fired_answer(a)
+    }
 }
 
-// With the timers in order.
-#[tactic(auto, unfolding(crate::specs::Answers::advance_answer))]
+#[tactic(auto, unfolding(crate::specs::Answers::advance_answer, crate::specs::Answers::advance_lines, crate::specs::Answers::refused_answer))]
 pub fn advance_answer(outcome: Result<Advanced, Refusal>) -> AnswerC
     ensures { result ≡ advance_answer outcome }
 {
-    let answer = advance_lines(outcome);
-    AnswerC {
-        fired: outcome.map_or_else(|_| no_timers(), |a| a.fired),
-        ..answer
-    }
+    outcome.map_or_else(refused_by, advanced)
 }
 
 #[tactic(auto, unfolding(crate::specs::Answers::plain_answer))]
@@ -168,7 +163,7 @@ pub fn plain_answer(outcome: Result<(), Refusal>) -> AnswerC
     outcome.map_or_else(refused_by, |()| no_lines())
 }
 
-// `plain_answer` under the name of set-up's definition: a second body would be no plainer.
+// The same as `plain_answer`. Its name is public, and the definition that its contract cites is what the rules state `setup_c` by.
 #[tactic(auto, unfolding(crate::specs::Answers::setup_answer))]
 pub fn setup_answer(outcome: Result<(), Refusal>) -> AnswerC
     ensures { result ≡ setup_answer outcome }

@@ -17,7 +17,8 @@ use leaseman::add_notice;
 use setup::new_and_setup;
 use timer::Reading;
 
-// What the call leaves: the next record, or on a refusal the one that was lent.
+// What the call leaves: the next record, or on a refusal the one that was lent. A refusal is a number here, and no Result: the
+// field of the C answer, by the C interface.
 #[tactic(auto, unfolding(host_rules::specs::Calls::left))]
 pub fn left_by(f: ManagerC, answer: AnswerC, m: Manager) -> CalledC
     ensures { result ≡ left f answer m }
@@ -30,9 +31,8 @@ pub fn left_by(f: ManagerC, answer: AnswerC, m: Manager) -> CalledC
     CalledC { answer, manager }
 }
 
-// Here, in host_outer_calls, host_questions and biasflint, f and c are the record and the card that the exported C function takes: its two
-// arguments, in the order in which the rules' definitions name them. Ids are cast: Rust has no `From` between usize and
-// u64.
+// Here, in host_outer_calls, host_questions and biasflint, f and c are the record and the card that the exported C function takes: the C
+// interface, in the order in which the rules' definitions name them. Ids are cast: Rust has no `From` from u64 to usize.
 #[tactic(auto, unfolding(host_rules::specs::Calls::setup_c))]
 pub fn setup_c(f: ManagerC, c: CallC) -> CalledC
     ensures { result ≡ setup_c f c }

@@ -143,7 +143,7 @@ pub fn lease_notice_of(c: CallC) -> LeaseNotice
 fn percent_of(n: u64) -> i8
     ensures { result ≡ percent_of n }
 {
-    // By `as`: the numbers fit, and Rust has no such `From`.
+    // By `as`: the numbers fit, Rust has no such `From`, and `try_from` brings an error that cannot come.
     let d = (n % 256) as i16 - 128;
     d as i8
 }

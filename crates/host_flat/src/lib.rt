@@ -21,6 +21,8 @@ fn timer_tag(t: Timer) -> u8
     }
 }
 
+// 0 where it is not armed. `deadline_in` of fired_deadlines gives the same by its own definition, which speaks of another rule: the
+// flat record does not stand on the order of fired timers.
 fn timer_at(t: Timer) -> u64
     ensures { result ≡ timer_at t }
 {
@@ -45,13 +47,13 @@ fn entry_at(e: Option<Timer>) -> u64
 fn grant_tag(g: Option<(Timer, bool)>) -> u8
     ensures { result ≡ grant_tag g }
 {
-    g.map_or(0, |(t, _)| timer_tag(t))
+    entry_tag(g.map(|(t, _)| t))
 }
 
 fn grant_at(g: Option<(Timer, bool)>) -> u64
     ensures { result ≡ grant_at g }
 {
-    g.map_or(0, |(t, _)| timer_at(t))
+    entry_at(g.map(|(t, _)| t))
 }
 
 fn grant_revoking(g: Option<(Timer, bool)>) -> u8

@@ -1,4 +1,4 @@
-// Whether a flat record is some manager's: its tags and flags are ones, and what they leave out is 0. Every
+// Whether a flat record is some manager's: each tag and flag has one of its values, and what they leave out is 0. Every
 // contract says that the result equals a definition of host_record/specs/Managers.
 #![tactic(auto)]
 

@@ -31,7 +31,8 @@ pub fn line_c(code: u64, number: u64, peer: u64, first: u64) -> LineC
     }
 }
 
-// A message to one peer. Ids are cast: Rust has no `From` between usize and u64.
+// A message to one peer; the rules send no Guard and no Revoke to one peer: code 0. Ids are cast: Rust has no `From` from
+// usize to u64, and `try_from` brings an error that cannot come.
 fn send_line(number: u64, id: ReplicaId, msg: LeaseMsg) -> LineC
     ensures { result ≡ send_line number id msg }
 {
@@ -48,6 +49,7 @@ fn send_line(number: u64, id: ReplicaId, msg: LeaseMsg) -> LineC
 fn guard_line(number: u64, set: u64, bar: Option<Bar>) -> LineC
     ensures { result ≡ guard_line number set bar }
 {
+    // The five fields written out: tried `..line_c(1, number, 1, set)` in the closure; the proof did not close.
     bar.map_or(
         line_c(1, number, 0, set),
         |x| LineC {
@@ -60,7 +62,7 @@ fn guard_line(number: u64, set: u64, bar: Option<Bar>) -> LineC
     )
 }
 
-// A message to the peers of a set.
+// A message to the peers of a set; the rules broadcast Guard and Revoke alone: any other has code 0.
 fn bcast_line(number: u64, set: u64, msg: LeaseMsg) -> LineC
     ensures { result ≡ bcast_line number set msg }
 {
@@ -74,6 +76,7 @@ fn bcast_line(number: u64, set: u64, msg: LeaseMsg) -> LineC
     }
 }
 
+// A numbered action. Ids are cast, as above.
 fn action_line(number: u64, action: LeaseAction) -> LineC
     ensures { result ≡ action_line number action }
 {
@@ -90,7 +93,6 @@ fn action_line(number: u64, action: LeaseAction) -> LineC
     }
 }
 
-// A numbered action.
 #[tactic(auto, unfolding(crate::specs::Lines::line_of))]
 pub fn line_of(line: Line) -> LineC
     ensures { result ≡ line_of line }
@@ -99,16 +101,13 @@ pub fn line_of(line: Line) -> LineC
     action_line(num.0, action)
 }
 
-// The peers whose sent timers fired, and those whose held timers fired.
+// The peers whose sent timers fired, and those whose held timers fired: the line has these two numbers of an `Advanced`.
 pub fn fired_line(sent: Bitmap, held: Bitmap) -> LineC
     ensures { result ≡ fired_line sent held }
 {
     LineC {
-        code: 31,
-        number: 0,
-        peer: 0,
-        first: sent.bits,
         second: held.bits,
+        ..line_c(31, 0, 0, sent.bits)
     }
 }
 

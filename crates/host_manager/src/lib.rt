@@ -30,7 +30,7 @@ fn entry_of(tag: u8, at: u64) -> Option<Timer>
 fn grant_of(tag: u8, at: u64, revoking: u8) -> Option<(Timer, bool)>
     ensures { result ≡ grant_of tag at revoking }
 {
-    (tag != 0).then(|| (timer_of(tag, at), revoking == 1))
+    entry_of(tag, at).map(|t| (t, revoking == 1))
 }
 
 #[tactic(auto, unfolding(host_record::specs::Managers::row_of))]

@@ -14,6 +14,8 @@ use host_record::ManagerC;
 use host_rules::CalledC;
 use outer_calls::{assume_unknown_grants, attempt_refresh};
 
+// Here f is the record and c the card that the exported C function takes: the C interface.
+
 #[tactic(auto, unfolding(host_rules::specs::Calls::quiet_c))]
 pub fn quiet_c(f: ManagerC) -> CalledC
     ensures { result ≡ quiet_c f }

@@ -12,6 +12,9 @@ use host_record::ManagerC;
 use host_rules::CalledC;
 use questions::{grant_set, lease_cnt, lease_set, time_left};
 
+// Here f is the record and c the card that the exported C function takes: the C interface. The four questions are functions of
+// one shape, each with a definition of its own in its contract; arms of one match would have no contract to say which is which.
+
 // The record as it was lent, with the answer.
 #[tactic(auto, unfolding(host_rules::specs::Calls::kept))]
 pub fn kept_by(f: ManagerC, answer: AnswerC) -> CalledC

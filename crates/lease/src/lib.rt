@@ -26,7 +26,8 @@ pub struct Bar(pub u64);
 // ---- the record
 
 // One id's row: its entry of each of the Rust's `guards_sent`, `promises_sent`, `guards_held` and
-// `promises_held`, and its refresh mark. A sent promise has its timer, and whether it is being revoked.
+// `promises_held`, and its refresh mark. A sent promise has its timer, and whether it is being revoked: a pair, as the Rust's
+// table has it.
 #[derive(Clone, Copy)]
 pub struct Peer {
     pub guard_sent: Option<Timer>,
@@ -76,7 +77,8 @@ pub enum LeaseNotice {
     LeaseTimeout(ReplicaId),
 }
 
-// What a notice about one peer says of that peer.
+// What a notice about one peer says of that peer: three cases of `LeaseNotice`, which has all six flat, as in the Rust. A handler
+// meets these alone.
 #[derive(Clone, Copy)]
 pub enum PeerNotice {
     RecvLeaseMsg(LeaseMsg),
@@ -167,7 +169,8 @@ impl Handled {
     }
 }
 
-// What a pass makes of one row, and whether the id is in the pass's first set and in its second.
+// What a pass makes of one row, and whether the id is in the pass's first set and in its second. No Option: the row is there
+// in either case.
 #[derive(Clone, Copy)]
 pub struct Visit {
     pub peer: Peer,
@@ -175,8 +178,8 @@ pub struct Visit {
     pub second: bool,
 }
 
-// What a pass makes of all rows: its two sets, and the count of the first. Advance's are the sent and
-// the held timers that fired; the other passes have an empty second set.
+// What a pass makes of all rows: its two sets, and the count of the first, so that `lease_cnt` needs no second pass. Advance's sets
+// are the sent and the held timers that fired; the other passes have an empty second set.
 #[derive(Clone, Copy)]
 pub struct Passed {
     pub peers: [Peer; 64],
@@ -185,7 +188,8 @@ pub struct Passed {
     pub count: u64,
 }
 
-// A notice's actions before they are numbered, and the next record.
+// A notice's actions before they are numbered, and the next record. This and `Accepted` are two structs: nothing works on both, and
+// with one generic struct each field would need another name.
 #[derive(Clone, Copy)]
 pub struct Acted {
     pub actions: Actions,
@@ -220,7 +224,8 @@ pub struct FiredTimers {
 
 // ---- the answers: what a call did, or why it was refused
 
-// Document 01's refusals of set-up and of the calls on a record.
+// Document 01's refusals of set-up and of the calls on a record. No message: what is shown of one is its number, by a match of its
+// own, as its definition is: nothing takes a refusal of any type.
 #[derive(Clone, Copy, PartialEq, Eq)]
 pub enum Refusal {
     TimeoutOutOfRange,

@@ -1,6 +1,7 @@
 // A notice on the manager's record, by value. The record is looked at first, then the notice's own
 // refusals; a refusal answers it and the record as it came. No `requires`. The other calls of the
-// Rust's `LeaseManager` stand in clock_calls, outer_calls, questions and setup.
+// Rust's `LeaseManager` stand in clock_calls, outer_calls, questions and setup. Document 01 hands number and notice in as
+// two arguments, as the Rust's `add_notice`.
 #![tactic(auto)]
 
 ghost use Rattle.std.specs.Prelude.{◌≡◌, Ok, Err};
@@ -15,6 +16,7 @@ use notices::run;
 use record_check::check_record;
 use refusals::check_notice;
 
+// A function of its own, so that `?` can be used: a closure would say the same one level deeper.
 fn notice_or_refuse(
     m: Manager,
     num: LeaseNum,

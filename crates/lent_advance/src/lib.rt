@@ -1,5 +1,6 @@
 // Advance over a lent record: the host lends the manager's record and finds it changed. The by-value core is
-// called on a copy. With it a caller that lends. lent_notice has the same around a notice.
+// called on a copy. `advance_lending` lends its own copy, so that a proved caller stands beside the contract. lent_notice has the
+// same around a notice: document 01 names this form, two thin functions over `&mut Manager`.
 #![tactic(auto)]
 
 ghost use Rattle.std.specs.Prelude.{◌≡◌};

@@ -1,6 +1,7 @@
 // A notice over a lent record: the host lends the manager's record and finds it changed. The by-value core
-// is called on a copy. With it a caller that lends. lent_advance has the same around advance: two thin functions,
-// as document 01 names the form, are no longer than one over a closure.
+// is called on a copy. `add_notice_lending` lends its own copy, so that a proved caller stands beside the
+// contract. lent_advance has the same around advance: document 01 names this form,
+// two thin functions over `&mut Manager`.
 #![tactic(auto)]
 
 ghost use Rattle.std.specs.Prelude.{◌≡◌};
@@ -9,7 +10,7 @@ ghost use Rattle.lease.specs.Rules.{notice_of};
 use lease::{Answered, LeaseNotice, LeaseNum, Lines, Manager, Refusal};
 use leaseman::add_notice;
 
-// A notice on a lent record. Number and notice are the Rust's two arguments.
+// A notice on a lent record.
 pub fn add_notice_lent(
     m: &mut Manager,
     num: LeaseNum,

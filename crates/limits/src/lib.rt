@@ -35,5 +35,5 @@ pub fn is_valid_own(me: ReplicaId, n: usize) -> bool
 pub fn is_valid_reading(now: Reading) -> bool
     ensures { result ≡ reading_valid now }
 {
-    now.0 <= MAX_READING
+    now <= Reading(MAX_READING)
 }

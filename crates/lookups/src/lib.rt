@@ -4,10 +4,12 @@
 
 ghost use Rattle.std.specs.Prelude.{◌≡◌, ◌<◌};
 ghost use Rattle.bitmap.specs.Bitmaps.{capacity};
+ghost use Rattle.lease.specs.Notices.{pass_on};
+ghost use Rattle.lease.specs.Pass.{Leased};
 ghost use Rattle.lease.specs.Calls.{grant_set, lease_set, lease_cnt, time_left};
 
 use bitmap::Bitmap;
-use lease::{Manager, ReplicaId};
+use lease::{Manager, Passed, ReplicaId};
 use passes::pass_over;
 use quiet::is_quiet;
 use record_check::CheckedManager;
@@ -23,10 +25,18 @@ pub fn granted_ids(checked: CheckedManager) -> Bitmap
 {
     let m = checked.manager;
     if is_quiet(m.now, m.quiet_timer) {
-        pass_over(|_, row| in_first(true, row), m.me, m.population, m.peers).first
+        pass_over(&m, |_, row| in_first(true, row)).first
     } else {
-        pass_over(|_, row| granted_row(row), m.me, m.population, m.peers).first
+        pass_over(&m, |_, row| granted_row(row)).first
     }
+}
+
+// The pass that finds the peers whose held promises are active.
+fn leased(checked: CheckedManager) -> Passed
+    ensures { result ≡ pass_on checked.manager (Leased checked.manager.now) }
+{
+    let m = checked.manager;
+    pass_over(&m, |_, row| leased_row(m.now, row))
 }
 
 // The peers whose held promises are active.
@@ -34,17 +44,15 @@ pub fn granted_ids(checked: CheckedManager) -> Bitmap
 pub fn leased_ids(checked: CheckedManager) -> Bitmap
     ensures { result ≡ lease_set checked.manager }
 {
-    let m = checked.manager;
-    pass_over(|_, row| leased_row(m.now, row), m.me, m.population, m.peers).first
+    leased(checked).first
 }
 
-// How many those are, and this controller.
+// One more than the size of the lease set.
 #[tactic(auto, unfolding(lease::specs::Calls::lease_cnt))]
 pub fn leased_count(checked: CheckedManager) -> u64
     ensures { result ≡ lease_cnt checked.manager }
 {
-    let m = checked.manager;
-    1 + pass_over(|_, row| leased_row(m.now, row), m.me, m.population, m.peers).count
+    1 + leased(checked).count
 }
 
 // Time left of the promise held from a peer.

@@ -36,12 +36,7 @@ fn raise(checked: CheckedManager, num: LeaseNum) -> CheckedManager
     ensures { result.manager ≡ raised_to checked.manager num }
 {
     let m = checked.manager;
-    let Passed { peers, .. } = pass_over(
-        |_, row| higher_number_row(row),
-        m.me,
-        m.population,
-        m.peers,
-    );
+    let Passed { peers, .. } = pass_over(&m, |_, row| higher_number_row(row));
     let manager = Manager {
         active_num: num,
         peers,
@@ -50,7 +45,8 @@ fn raise(checked: CheckedManager, num: LeaseNum) -> CheckedManager
     CheckedManager { manager }
 }
 
-// The number step: an outdated notice changes nothing, a higher number is raised to first.
+// The number step: an outdated notice changes nothing, a higher number is raised to first. Number and notice are two arguments, as document 01
+// and the Rust hand them in.
 #[tactic(auto, unfolding(lease::specs::Notices::accepted_of, lease::specs::Notices::raised_to))]
 pub fn run(checked: CheckedManager, num: LeaseNum, notice: LeaseNotice) -> Accepted
     requires { PeerBelow checked.manager.population notice }

@@ -27,6 +27,7 @@ pub fn assume_unknown_grants(m: Manager) -> Answered<()>
     answered(m, done)
 }
 
+// A function of its own, so that `?` can be used: a closure would say the same one level deeper.
 #[tactic(auto, using(calls::proofs::Laws::near))]
 fn refresh_or_refuse(m: Manager, set: Option<Bitmap>) -> Result<Answered<Bitmap>, Refusal>
     ensures { result ≡ judged (record_valid m) (refresh_refusal set) (λ k. Err k) (Ok (attempt_refresh m set)) }

@@ -5,7 +5,7 @@ ghost use Rattle.std.specs.Prelude.{◌≡◌, ◌<◌};
 ghost use Rattle.lease.specs.Notices.{on_peer};
 
 use handlers::handle_peer_notice;
-use lease::{Acted, PeerNotice, ReplicaId, Term};
+use lease::{Acted, Handled, PeerNotice, ReplicaId, Term};
 use record_check::CheckedManager;
 
 // A notice about one peer changes that peer's row alone.
@@ -14,17 +14,13 @@ pub fn on_peer(checked: CheckedManager, id: ReplicaId, notice: PeerNotice) -> Ac
     requires { id < checked.manager.population }
     ensures { result ≡ on_peer checked.manager id notice }
 {
-    let m = checked.manager;
+    let mut manager = checked.manager;
     let term = Term {
-        clock: m.clock,
-        now: m.now,
-        expire_timeout: m.expire_timeout,
+        clock: manager.clock,
+        now: manager.now,
+        expire_timeout: manager.expire_timeout,
     };
-    let handled = handle_peer_notice(term, id, notice, m.peers[id]);
-    let mut manager = m;
-    manager.peers[id] = handled.peer;
-    Acted {
-        actions: handled.actions,
-        manager,
-    }
+    let Handled { peer, actions } = handle_peer_notice(term, id, notice, manager.peers[id]);
+    manager.peers[id] = peer;
+    Acted { actions, manager }
 }

@@ -1,5 +1,6 @@
 // The quiet timer at a reading, and the quiet-end line. Every contract says that the result equals a
-// definition of lease/specs/Calls.
+// definition of lease/specs/Calls. Reading and quiet timer come as two values, since
+// advance asks of a reading that is not the record's yet; `is_quiet` goes with its siblings.
 #![tactic(auto)]
 
 ghost use Rattle.std.specs.Prelude.{◌≡◌, ◌≤◌, ◌<◌};
@@ -29,7 +30,8 @@ pub fn is_quiet(now: Reading, quiet: Option<Reading>) -> bool
     quiet.is_some_and(|deadline| now < deadline)
 }
 
-// The quiet-end line: (0, GrantTimeout of (own id + 1) mod population).
+// The quiet-end line: (0, GrantTimeout of (own id + 1) mod population), if the quiet timer fired. The flag is the rule's own
+// (`quiet_end` in lease/specs/Calls): a caller that wrote `then_some` itself would say half the rule.
 pub fn quiet_end(fired: bool, own: ReplicaId, population: usize) -> Option<Line>
     requires own_lt_population { own < population }
     requires population_le_capacity { population ≤ capacity }

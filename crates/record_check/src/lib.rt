@@ -14,7 +14,6 @@ use drift_clocks::is_quotient;
 use lease::{Manager, Refusal};
 use limits::{is_valid_own, is_valid_population, is_valid_reading, is_valid_timeout};
 use row_check::is_valid_at;
-use timer::Reading;
 use timer_check::is_valid_deadline;
 
 // A record that the check passed, so that its numbers are within set-up's limits.
@@ -24,10 +23,11 @@ pub struct CheckedManager {
     ghost fits: { ManagerFits manager },
 }
 
-fn is_valid_quiet(now: Reading, quiet: Option<Reading>) -> bool
-    ensures { result ≡ quiet_valid now quiet }
+fn is_valid_quiet(m: &Manager) -> bool
+    ensures { result ≡ quiet_valid m.entry.now.now m.entry.now.quiet_timer }
 {
-    quiet.is_none_or(|deadline| is_valid_deadline(now, deadline))
+    m.quiet_timer
+        .is_none_or(|deadline| is_valid_deadline(m.now, deadline))
 }
 
 fn are_valid_rows(m: &Manager) -> bool
@@ -65,10 +65,7 @@ fn is_valid_clock(clock: Clock) -> bool
 pub fn is_valid_record(m: Manager) -> bool
     ensures { result ≡ record_valid m }
 {
-    are_valid_limits(&m)
-        && are_valid_rows(&m)
-        && is_valid_clock(m.clock)
-        && is_valid_quiet(m.now, m.quiet_timer)
+    are_valid_limits(&m) && are_valid_rows(&m) && is_valid_clock(m.clock) && is_valid_quiet(&m)
 }
 
 // The record, where the check passes it; else refusal 15.

@@ -14,7 +14,8 @@ use timer::{Reading, extend};
 use timer_readings::exploded;
 
 // `attempt_refresh`: a named, marked peer with a sent promise loses its mark; the promise is extended by
-// T as the clock has it, unless it is revoking or exploded.
+// T as the clock has it, unless it is revoking or exploded. The clauses are `timer::extend`'s,
+// for the reason that stands beside `timer::kickoff`; `named` is a parameter, as in visits.
 pub fn refresh_row(now: Reading, by: u64, named: bool, row: Peer) -> Visit
     requires le_max_reading { now.0 ≤ max_reading }
     requires by_le_longest { by ≤ longest }

@@ -23,7 +23,7 @@ pub fn check_peer(m: &Manager, id: ReplicaId) -> Result<(), Refusal>
     Ok(())
 }
 
-// A set's size is the population.
+// The size of a set, if there is one, is the population.
 fn check_set(m: &Manager, set: Option<Bitmap>) -> Result<(), Refusal>
     ensures { result ≡ set_refusal m.entry.now.population set }
 {

@@ -2,14 +2,13 @@
 // memory. Here bytes are only moved; what they give is card_feed's, and proved there.
 #![tactic(auto)]
 
-ghost use Rattle.std.specs.Prelude.{◌≤◌, length};
-
 use anyhow::{Context, Result};
 use card_feed::{MOST_INPUT, ROOM, Replay, blank_replay};
 use std::io;
 use std::io::{Read, Write};
 
-// What a turn found: a chunk that was taken, the end of the input, or a chunk that was not taken.
+// What a turn found: a chunk that was taken, the end of the input, or a chunk that was not taken. An enum of its own names each
+// of the three; a ControlFlow<bool> would name none of them.
 #[derive(Clone, Copy)]
 enum Turn {
     Taken,
@@ -17,14 +16,13 @@ enum Turn {
     NotTaken,
 }
 
-// Writes the first n bytes; says so where it fails.
-fn write_out(out: &[u8], n: usize, to: &mut impl Write) -> Result<()>
-    requires { n ≤ length out.now }
-{
-    to.write_all(&out[..n]).context("replay: standard output")
+// Writes the lines; says so where it fails.
+fn write_out(lines: &[u8], to: &mut impl Write) -> Result<()> {
+    to.write_all(lines).context("replay: standard output")
 }
 
-// Reads once, feeds what was read, and writes what it gives; says so where it fails.
+// Reads once, feeds what was read, and writes what it gives; says so where it fails. The room for lines is lent beside `to`:
+// there is no heap that a writer with its buffer could take it from.
 fn move_some(
     replay: &mut Replay,
     from: &mut impl Read,
@@ -36,13 +34,11 @@ fn move_some(
     if n == 0 {
         return Ok(Turn::AtEnd);
     }
-    match replay.feed(&buf[..n], out) {
-        Some(written) => {
-            write_out(out, written, to)?;
-            Ok(Turn::Taken)
-        }
-        None => Ok(Turn::NotTaken),
-    }
+    let Some(written) = replay.feed(&buf[..n], out) else {
+        return Ok(Turn::NotTaken);
+    };
+    write_out(&out[..written], to)?;
+    Ok(Turn::Taken)
 }
 
 // Reads to the end, and answers whether all was taken. A proved loop has to end, and nothing says that the input does: so
@@ -71,7 +67,7 @@ pub fn run(rt: &(impl Input + Print)) -> Result<()> {
     let mut replay = blank_replay();
     if move_all(&mut replay, &mut from, &mut out, &mut to)? {
         let n = replay.finish(&mut out);
-        write_out(&out, n, &mut to)?;
+        write_out(&out[..n], &mut to)?;
     }
     Ok(())
 }

@@ -57,14 +57,10 @@ pub fn is_active(now: Reading, entry: Option<Timer>) -> bool
 pub fn in_none(row: Peer) -> Visit
     ensures { result ≡ in_none row }
 {
-    Visit {
-        peer: row,
-        first: false,
-        second: false,
-    }
+    in_first(false, row)
 }
 
-// The row in the pass's first set, if `is`.
+// The row, in the pass's first set if `is` holds.
 pub fn in_first(is: bool, row: Peer) -> Visit
     ensures { result ≡ in_first is row }
 {

@@ -13,8 +13,9 @@ use biasflint::call;
 use host_answers::AnswerC;
 use host_cards::CallC;
 use host_flat::flat_record;
-use host_lines::LineC;
+use host_lines::{LineC, line_c};
 use host_record::{ManagerC, PeerC};
+use host_rules::CalledC;
 use lease::{FiredTimer, FiredTimers};
 use sample_columns::{next_card, write_line};
 use setup::new_and_setup;
@@ -30,7 +31,7 @@ fn sent_tag(p: PeerC) -> u64 {
     if p.guard_sent > 0 {
         return u64::from(p.guard_sent);
     }
-    let revoking = u64::from(p.revoking % 2);
+    let revoking = u64::from(p.revoking);
     match p.promise_sent {
         0 => 0,
         1 => 8 + revoking,
@@ -61,24 +62,27 @@ fn held_tag(p: PeerC) -> u64 {
 
 // The larger of a side's two deadlines: at most one is not 0.
 fn deadline(guard: u64, promise: u64) -> u64 {
-    if guard > 0 { guard } else { promise }
+    guard.max(promise)
 }
 
 // Writes a row that has anything in it.
 fn write_row(i: usize, p: PeerC, output: &mut impl Write) -> io::Result<()> {
-    let mark = u64::from(p.refresh_mark % 2) * 100;
+    let mark = u64::from(p.refresh_mark) * 100;
+    // `%`, as in `held_entry`, leaves each part as it is, and lets the check see that their sum fits.
     let sent = sent_tag(p) % 10;
     let held = held_tag(p) % 100 * 10;
     let tag = mark + held + sent;
     if tag > 0 {
         write_line(
             LineC {
-                code: 41,
-                number: tag,
-                // `as`: Rust has no `From` between usize and u64, which here have the same numbers.
-                peer: i as u64,
-                first: deadline(p.guard_sent_at, p.promise_sent_at),
                 second: deadline(p.guard_held_at, p.promise_held_at),
+                // `as`: Rust has no `From` from usize to u64, and `try_from` brings an error that cannot come.
+                ..line_c(
+                    41,
+                    tag,
+                    i as u64,
+                    deadline(p.guard_sent_at, p.promise_sent_at),
+                )
             },
             output,
         )?;
@@ -93,16 +97,14 @@ fn write_rows(peers: [PeerC; 64], output: &mut impl Write) -> io::Result<()> {
     Ok(())
 }
 
-// Writes the record that an accepted call left; a question leaves it as it was.
+// Writes the record that an accepted call left; a question leaves it as it was. The code is that of the C call record, which has
+// the questions from 12 on.
 fn write_record(code: u64, m: ManagerC, output: &mut impl Write) -> io::Result<()> {
     if code < 12 {
         write_line(
             LineC {
-                code: 40,
-                number: m.active_num,
-                peer: 0,
-                first: m.now,
                 second: m.quiet_until,
+                ..line_c(40, m.active_num, 0, m.now)
             },
             output,
         )?;
@@ -113,25 +115,18 @@ fn write_record(code: u64, m: ManagerC, output: &mut impl Write) -> io::Result<(
 
 // Writes the answer's lines.
 fn write_lines(a: AnswerC, output: &mut impl Write) -> io::Result<()> {
-    // By `as`: Rust has no `From` from u64 to usize.
+    // By `as`: Rust has no `From` from u64 to usize, and `try_from` brings an error that cannot come.
     for line in [a.one, a.two, a.three].iter().take(a.count as usize) {
         write_line(*line, output)?;
     }
     Ok(())
 }
 
-// Writes a fired timer: with no lease number, so not card_lines' line.
+// Writes a fired timer, with no lease number. The line is that of card_lines' private `fired_line`: this program stands on the host
+// library, which has no cards of its own.
 fn write_timer(t: FiredTimer, output: &mut impl Write) -> io::Result<()> {
-    write_line(
-        LineC {
-            code: if t.held { 15 } else { 14 },
-            number: 0,
-            peer: u64::from(t.id),
-            first: 0,
-            second: 0,
-        },
-        output,
-    )
+    let code = if t.held { 15 } else { 14 };
+    write_line(line_c(code, 0, u64::from(t.id), 0), output)
 }
 
 // Writes the timers that fired, in order.
@@ -143,30 +138,20 @@ fn write_fired(fired: &FiredTimers, output: &mut impl Write) -> io::Result<()> {
 }
 
 fn write_refusal(k: u64, output: &mut impl Write) -> io::Result<()> {
-    write_line(
-        LineC {
-            code: 20,
-            number: 0,
-            peer: 0,
-            first: k,
-            second: 0,
-        },
-        output,
-    )
+    write_line(line_c(20, 0, 0, k), output)
 }
 
 // The call of a card, and what it answers.
 fn run_card(before: ManagerC, c: CallC, output: &mut impl Write) -> io::Result<ManagerC> {
-    let called = call(before, c);
-    let answer = called.answer;
+    let CalledC { answer, manager } = call(before, c);
     if answer.refused > 0 {
         write_refusal(answer.refused, output)?;
     } else {
         write_lines(answer, output)?;
         write_fired(&answer.fired, output)?;
-        write_record(c.code, called.manager, output)?;
+        write_record(c.code, manager, output)?;
     }
-    Ok(called.manager)
+    Ok(manager)
 }
 
 // The record of a refused set-up, which no call but set-up takes.

@@ -19,7 +19,7 @@ fn next_columns(input: &mut impl Read) -> io::Result<Option<[u8; COLUMNS]>> {
     }
 }
 
-// The next line, read as a card; none where it is no card, or the input ends.
+// The next line, read as a card; none where the line is not of the form, or the input ends.
 pub fn next_card(input: &mut impl Read) -> io::Result<Option<CallC>> {
     let Some(columns) = next_columns(input)? else {
         return Ok(None);

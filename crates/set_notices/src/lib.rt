@@ -17,7 +17,7 @@ pub fn handle_new_grants(checked: CheckedManager, set: Option<Bitmap>, bar: Opti
 {
     let m = checked.manager;
     let rule = |i, row| new_grants_row(is_named(set, i), row);
-    let Passed { peers, first, .. } = pass_over(rule, m.me, m.population, m.peers);
+    let Passed { peers, first, .. } = pass_over(&m, rule);
     Acted {
         actions: Actions::One(LeaseAction::BcastLeaseMsgs(first, LeaseMsg::Guard(bar))),
         manager: Manager { peers, ..m },
@@ -31,7 +31,7 @@ pub fn handle_do_revoke(checked: CheckedManager, set: Option<Bitmap>) -> Acted
 {
     let m = checked.manager;
     let rule = |i, row| do_revoke_row(is_named(set, i), row);
-    let Passed { peers, first, .. } = pass_over(rule, m.me, m.population, m.peers);
+    let Passed { peers, first, .. } = pass_over(&m, rule);
     let actions = if first.bits == 0 {
         Actions::None
     } else {
@@ -48,7 +48,7 @@ pub fn handle_clear_held(checked: CheckedManager) -> Acted
     ensures { result ≡ handle_clear_held checked.manager }
 {
     let m = checked.manager;
-    let Passed { peers, .. } = pass_over(|_, row| clear_held_row(row), m.me, m.population, m.peers);
+    let Passed { peers, .. } = pass_over(&m, |_, row| clear_held_row(row));
     Acted {
         actions: Actions::One(LeaseAction::LeaseCleared),
         manager: Manager { peers, ..m },

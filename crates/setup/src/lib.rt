@@ -16,7 +16,8 @@ fn is_slow(t: u64, heartbeat: u64) -> bool
     t <= heartbeat.saturating_mul(2)
 }
 
-// Refusals 1 to 5 in their order.
+// Refusals 1 to 5 in their order. Document 01 hands set-up these five numbers, as the Rust's `new_and_setup` takes them: a struct
+// would be made for the call alone, and is no plainer.
 fn check_set_up(
     me: ReplicaId,
     n: usize,
@@ -74,14 +75,11 @@ fn fresh_manager(me: ReplicaId, n: usize, t: u64, now: Reading) -> Manager
 pub fn new_and_setup(me: ReplicaId, n: usize, t: u64, heartbeat: u64, now: Reading) -> Answered<()>
     ensures { result ≡ setup_of me n t heartbeat now }
 {
-    match check_set_up(me, n, t, heartbeat, now) {
-        Ok(()) => Answered {
-            outcome: Ok(()),
-            manager: fresh_manager(me, n, t, now),
-        },
-        Err(refusal) => Answered {
-            outcome: Err(refusal),
-            manager: fresh_manager(0, 0, 0, Reading(0)),
-        },
-    }
+    let outcome = check_set_up(me, n, t, heartbeat, now);
+    let manager = if outcome.is_ok() {
+        fresh_manager(me, n, t, now)
+    } else {
+        fresh_manager(0, 0, 0, Reading(0))
+    };
+    Answered { outcome, manager }
 }

@@ -5,13 +5,14 @@
 // example_questions, and N and A here are add_notice and advance over a lent record.
 #![tactic(auto)]
 
-use example_calls::{Done, advanced, noticed, perform, start};
+use example_calls::{Done, perform, read_advance, read_notice, start};
 use example_questions::{ask, is_question};
-use example_script::{Counts, copy_saying, judge, letter, notice, word, write_counts};
-use lease::{LeaseNum, Manager};
+use example_script::{Counts, copy_saying, judge, letter, write_counts};
+use lease::Manager;
+use lent_advance::advance_lending;
+use lent_notice::add_notice_lending;
 use std::io;
 use std::io::{BufReader, BufWriter, Read, Write};
-use timer::Reading;
 
 // More lines than the file has: a bound, so that the loop ends whatever the file is.
 const TURNS: u64 = 1000;
@@ -21,15 +22,6 @@ const TURNS: u64 = 1000;
 struct Run {
     manager: Manager,
     counts: Counts,
-}
-
-fn add_notice_lending(m: Manager, input: &mut impl Read) -> io::Result<Done> {
-    let num = LeaseNum(word(input)?);
-    Ok(noticed(lent_notice::add_notice_lending(m, num, notice(input)?)))
-}
-
-fn advance_lending(m: Manager, input: &mut impl Read) -> io::Result<Done> {
-    Ok(advanced(lent_advance::advance_lending(m, Reading(word(input)?))))
 }
 
 fn asked(m: Manager, letter: u8, input: &mut impl Read) -> io::Result<Done> {
@@ -44,8 +36,8 @@ fn call(m: Manager, input: &mut impl Read) -> io::Result<Done> {
         return asked(m, first, input);
     }
     match first {
-        b'N' => add_notice_lending(m, input),
-        b'A' => advance_lending(m, input),
+        b'N' => read_notice(m, input, add_notice_lending),
+        b'A' => read_advance(m, input, advance_lending),
         _ => perform(m, first, input),
     }
 }
@@ -62,7 +54,7 @@ fn main(rt: HostRuntime) -> io::Result<()> {
     let mut output = BufWriter::new(rt.alloc(), io::writer(&rt))?;
     let mut run = Run {
         manager: start().manager,
-        counts: Counts { right: 0, count: 0 },
+        counts: Counts::default(),
     };
     for _ in 0..TURNS {
         if !copy_saying(&mut input, &mut output)? {

@@ -25,7 +25,7 @@ pub enum Timer {
     Exploded,
 }
 
-// What a reading makes of a timer, and whether it fired: a pair, since every answer has both.
+// What a reading makes of a timer, and whether it fired. No Option: there is a timer in either case, and a tuple is no plainer.
 #[derive(Clone, Copy, PartialEq, Eq)]
 pub struct Expired {
     pub timer: Timer,
@@ -42,7 +42,8 @@ pub fn drift_of(clock: Clock, ns: u64) -> u64
     clock_drifted(clock, ns).ns
 }
 
-// A timer set to now + the drifted duration, whatever it was before.
+// A timer set to now + the drifted duration, whatever it was before. That a reading is at most the largest is a clause here
+// and in `extend`, and no type: the record holds its reading unchecked, as a host hands it in, and a wrong one is refused by a number.
 pub fn kickoff(clock: Clock, now: Reading, ns: u64) -> Timer
     requires le_max_reading { now.0 ≤ max_reading }
     requires ns_le_max_reading { ns ≤ max_reading }

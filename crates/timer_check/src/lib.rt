@@ -10,7 +10,8 @@ use timer::{Reading, Timer};
 // How far past the reading a deadline may be: 3,000 s.
 const FARTHEST: u64 = 3_000_000_000_000;
 
-// A deadline is above the reading and at most 3,000 s past it.
+// A deadline is above the reading and at most 3,000 s past it. What lies between two readings is ns and no reading, so it is
+// compared as a number.
 pub fn is_valid_deadline(now: Reading, deadline: Reading) -> bool
     ensures { result ≡ deadline_valid now deadline }
 {
@@ -41,8 +42,9 @@ pub fn is_valid_entry(now: Reading, entry: Option<Timer>) -> bool
     entry.is_none_or(|timer| is_valid_timer(now, timer))
 }
 
+// The timer of a sent promise, as an entry.
 pub fn is_valid_grant(now: Reading, grant: Option<(Timer, bool)>) -> bool
     ensures { result ≡ grant_valid now grant }
 {
-    grant.is_none_or(|(timer, _)| is_valid_timer(now, timer))
+    is_valid_entry(now, grant.map(|(timer, _)| timer))
 }

@@ -1,12 +1,10 @@
--- The loop's invariant: the ones below i are laid over the slice from its start, and `at` is how many they are.
-use Rattle.std.proofs.Common.{◌≡◌}
-use Rattle.bitmap.specs.Sets.{count_where}
+-- The loop's invariant: as many ids as were gone through are laid over the slice from its start.
+use Rattle.std.proofs.Common.{◌≡◌, length}
+use mathlib.Core.List.{◌++◌}
+use lib.ListN.{take, drop}
 use Rattle.bitmap.specs.Bitmaps.{is_one}
-use Rattle.bitmap.specs.Operations.{ids_below, laid_over}
+use Rattle.bitmap.specs.Operations.{ids_below}
 use Rattle.bitmap_lists.proofs.write_ones.Given as goal
 
-abbrev pub invariant-loop-i : goal.invariant-loop-i
-invariant-loop-i l = record {
-  placed : l.at ≡ count_where (is_one l.b) l.i;
-  laid : l.out ≡ laid_over (ids_below (is_one l.b) l.i) l.initial.out;
-}
+abbrev pub invariant-loop-at : goal.invariant-loop-at
+invariant-loop-at l = l.out ≡ take (length l.yielded) (ids_below (is_one l.fn.b) l.fn.b.size) ++ drop (length l.yielded) l.initial.out

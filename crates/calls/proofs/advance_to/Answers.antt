@@ -6,8 +6,8 @@ use Rattle.calls.proofs.advance_to.Goals as goal
 
 pub fired_timers-requires-clause-size_le_capacity : goal.fired_timers-requires-clause-size_le_capacity
 unfolding pass_over
-fired_timers-requires-clause-size_le_capacity c = rw (c.pass_over-passed.ensures (P.Advance c.args.to) (search rules)) (search rules)
+fired_timers-requires-clause-size_le_capacity c = rw (c.pass_over.ensures (P.Advance c.args.to) (search rules)) (search rules)
 
 pub fired_timers-requires-clause-size_le_capacity_2 : goal.fired_timers-requires-clause-size_le_capacity_2
 unfolding pass_over
-fired_timers-requires-clause-size_le_capacity_2 c = rw (c.pass_over-passed.ensures (P.Advance c.args.to) (search rules)) (search rules)
+fired_timers-requires-clause-size_le_capacity_2 c = rw (c.pass_over.ensures (P.Advance c.args.to) (search rules)) (search rules)

@@ -1,5 +1,5 @@
 -- The count is at most the population, so that one more fits.
-use Rattle.std.proofs.Common.{rules, arith}
+use Rattle.std.proofs.Common.{arith}
 use Rattle.bitmap.proofs.Sets.{count_where-le}
 use Rattle.lease.specs.Pass.{Leased}
 use Rattle.lease.specs.Passes.{is_first, pass_over}
@@ -11,4 +11,4 @@ overflow_add-result c =
     let m = c.args.checked.manager in
     let few = c.args.checked.fits.few in
     let most = count_where-le (is_first (Leased m.now) m.me m.peers) m.population in
-    rw (c.pass_over.ensures (Leased m.now) (search rules)) (omega arith)
+    rw c.leased.ensures (omega arith)
