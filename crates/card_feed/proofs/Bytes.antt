@@ -1,48 +1,61 @@
 -- Feeding byte by byte, as the code goes: what one byte more leaves and prints, and the room that a chunk needs: 123 bytes for each byte of
 -- its own and of the line that is held. Assumes nothing.
-use Prim.Native.Nat.{ℕ, suc, ◌<◌, ◌≤◌, ◌+◌, ◌*◌, min}
+use Prim.Native.Nat.{ℕ, ◌<◌, ◌≤◌, ◌+◌, ◌*◌, min}
 use mathlib.Core.Path.{◌≡◌, refl}
 use mathlib.Core.Bool.{Bool, true, false}
 use mathlib.Core.List.{List, [], ◌∷◌, ◌++◌, append-nil}
 use native.Mathlib.Numerals.{add-one}
 use native.Mathlib.Omega.{arith}
-use borrow.Author.Tests.{ltb-false, eqb-true, ne_eqb}
-use Rattle.std.specs.Prelude.{◌≢◌, Err}
+use borrow.Author.Tests.{ltb-false, eqb-true}
+use Rattle.std.specs.Prelude.{Some, None, Result}
 use lib.Dec.{eqb, ltb}
 use lib.ListN.{length, take, get_or, length-append, length-take}
 use lib.Seq.{sets, take-suc}
 use Rattle.columns.proofs.Text.{sets-laid}
-use Rattle.card_events.specs.declared.CardRefusal.TheVariants.{NotOfForm}
-use Rattle.card_sessions.specs.declared.Session.{Session}
+use Rattle.card_events.specs.declared.CardGiven.{CardGiven}
+use Rattle.card_events.specs.declared.CardRefusal.{CardRefusal}
 use Rattle.card_sessions.specs.Sessions.{given_by, refused_card, card_given}
-use Rattle.card_lines.specs.Lines.{room_of, laid}
+use Rattle.card_lines.specs.Lines.{outcome_text, room_of, laid}
 use Rattle.card_lines.proofs.Laws.{fits}
 use Rattle.card_partials.specs.declared.Partial.{Partial}
 use Rattle.card_partials.specs.Partials.{kept_by, partial_read}
-use Rattle.card_feed.specs.declared.Replay.{Replay}
-use Rattle.card_feed.specs.Feed.{given_text, line_given, ended_text, ended, kept_in, feed_next, feed_text, held}
+use Rattle.card_reader.specs.declared.CardReader.{CardReader}
+use Rattle.card_reader.specs.Reader.{line_given, last_given, ended_by, byte_next, byte_given, chunk_next, end_next, end_given}
+use Rattle.card_reader.proofs.Laws.{byte_more as next}
+use Rattle.card_feed.specs.Feed.{given_text, byte_text, feed_text, last_text, held}
 use Rattle.card_feed.proofs.Laws.{chunks}
 
 -- ---- one byte more
 
-pub line_ends :
-    (r : Replay) (bs : List ℕ) (k d : ℕ) → k < length bs → get_or bs k d ≡ 10 →
-    (feed_next r (take (k + 1) bs) ≡ ended (feed_next r (take k bs)))
-    × (feed_text r (take (k + 1) bs) ≡ feed_text r (take k bs) ++ ended_text (feed_next r (take k bs)))
-unfolding feed_next feed_text
-line_ends r bs k d h e =
-    let step = chunks r (take k bs) (10 ∷ []) in
-    rw (add-one k, take-suc bs k d h, e, step.0, step.1, append-nil (ended_text (feed_next r (take k bs)))) (refl, refl)
-
-pub byte_kept :
-    (r : Replay) (bs : List ℕ) (k d : ℕ) → k < length bs → get_or bs k d ≢ 10 →
-    (feed_next r (take (k + 1) bs) ≡ kept_in (feed_next r (take k bs)) (get_or bs k d))
-    × (feed_text r (take (k + 1) bs) ≡ feed_text r (take k bs))
-unfolding feed_next feed_text
-byte_kept r bs k d h e =
+pub byte_more :
+    (r : CardReader) (bs : List ℕ) (k d : ℕ) → k < length bs →
+    (chunk_next r (take (k + 1) bs) ≡ byte_next (chunk_next r (take k bs)) (get_or bs k d))
+    × (feed_text r (take (k + 1) bs) ≡ feed_text r (take k bs) ++ byte_text (chunk_next r (take k bs)) (get_or bs k d))
+unfolding feed_text
+byte_more r bs k d h =
     let b = get_or bs k d in
-    let step = chunks r (take k bs) (b ∷ []) in
-    rw (add-one k, take-suc bs k d h, step.0, step.1, ne_eqb b 10 e, append-nil (feed_text r (take k bs))) (refl, refl)
+    let before = chunk_next r (take k bs) in
+    (next r bs k d h, rw (add-one k, take-suc bs k d h, chunks r (take k bs) (b ∷ []), append-nil (byte_text before b)) refl)
+
+-- what a card gives that is taken is what its byte prints; and a byte that ends no line prints nothing
+pub taken : (r : CardReader) (b : ℕ) (o : Result CardGiven CardRefusal) → byte_given r b ≡ Some o → (byte_text r b ≡ outcome_text (byte_next r b).session.cards o) × (o ≡ (line_given r).outcome)
+unfolding byte_given byte_next ended_by given_text
+taken r b o h = go (eqb b 10) refl
+  where
+    go : (t : Bool) → eqb b 10 ≡ t → (byte_text r b ≡ outcome_text (byte_next r b).session.cards o) × (o ≡ (line_given r).outcome)
+    go true e =
+        let same : Some (line_given r).outcome ≡ Some o = rw e at h in
+        let of-some : (line_given r).outcome ≡ o = cc in
+        rw (e, of-some) (refl, refl)
+    go false e = let none : None ≡ Some o = rw e at h in absurd cc
+
+pub not_taken : (r : CardReader) (b : ℕ) → byte_given r b ≡ None → byte_text r b ≡ []
+unfolding byte_given
+not_taken r b h = go (eqb b 10) refl
+  where
+    go : (t : Bool) → eqb b 10 ≡ t → byte_text r b ≡ []
+    go true e = let some : Some (line_given r).outcome ≡ None = rw e at h in absurd cc
+    go false e = rw e refl
 
 -- ---- the room
 
@@ -55,7 +68,7 @@ held_kept p b = go (ltb p.filled 73) refl
     go true e = rw e (omega arith)
     go false e = rw e (omega (arith, ltb-false p.filled 73 e))
 
-pub room_of_line : (r : Replay) → room_of (line_given r).outcome ≤ 123 * (held r + 1)
+pub room_of_line : (r : CardReader) → room_of (line_given r).outcome ≤ 123 * (held r + 1)
 unfolding room_of line_given partial_read card_given refused_card given_by
 room_of_line r = go (eqb r.partial.filled 73) refl
   where
@@ -63,38 +76,69 @@ room_of_line r = go (eqb r.partial.filled 73) refl
     go true e = omega (arith, eqb-true r.partial.filled 73 e, (fits 0 (line_given r).outcome).1)
     go false e = rw e (omega arith)
 
-line_room : (r : Replay) → length (ended_text r) ≤ 123 * (held r + 1)
-unfolding given_text
-line_room r = let a = line_given r in omega (arith, (fits a.session.cards a.outcome).0, room_of_line r)
-
--- what a chunk prints and holds
-pub chunk_room : (r : Replay) (bs : List ℕ) → length (feed_text r bs) + 123 * held (feed_next r bs) ≤ 123 * (held r + length bs)
-unfolding feed_text feed_next ended
-chunk_room r [] = omega arith
-chunk_room r (b ∷ bs) = go (eqb b 10) refl (chunk_room (ended r) bs) (chunk_room (kept_in r b) bs)
+-- what a byte prints and holds
+byte_room : (r : CardReader) (b : ℕ) → length (byte_text r b) + 123 * held (byte_next r b) ≤ 123 * (held r + 1)
+unfolding byte_next ended_by given_text
+byte_room r b = go (eqb b 10) refl
   where
-    go : (t : Bool) → eqb b 10 ≡ t → length (feed_text (ended r) bs) + 123 * held (feed_next (ended r) bs) ≤ 123 * (held (ended r) + length bs) → length (feed_text (kept_in r b) bs) + 123 * held (feed_next (kept_in r b) bs) ≤ 123 * (held (kept_in r b) + length bs) → length (feed_text r (b ∷ bs)) + 123 * held (feed_next r (b ∷ bs)) ≤ 123 * (held r + suc (length bs))
-    go true e h k = rw (e, length-append (ended_text r) (feed_text (ended r) bs)) (omega (arith, h, line_room r))
-    go false e h k = rw e (omega (arith, k, held_kept r.partial b))
+    go : (t : Bool) → eqb b 10 ≡ t → length (byte_text r b) + 123 * held (byte_next r b) ≤ 123 * (held r + 1)
+    go true e = let a = line_given r in rw e (omega (arith, (fits a.session.cards a.outcome).0, room_of_line r))
+    go false e = rw e (omega (arith, held_kept r.partial b))
 
--- a line that ends after k bytes of a chunk has room behind what they printed
-pub next_room : (r : Replay) (bs : List ℕ) (k room : ℕ) → k < length bs → 123 * (held r + length bs) ≤ room → length (feed_text r (take k bs)) + room_of (line_given (feed_next r (take k bs))).outcome ≤ room
-next_room r bs k room h m =
+-- and a chunk
+pub chunk_room : (r : CardReader) (bs : List ℕ) → length (feed_text r bs) + 123 * held (chunk_next r bs) ≤ 123 * (held r + length bs)
+unfolding feed_text chunk_next
+chunk_room r [] = omega arith
+chunk_room r (b ∷ bs) = rw (length-append (byte_text r b) (feed_text (byte_next r b) bs)) (omega (arith, byte_room r b, chunk_room (byte_next r b) bs))
+
+-- what a card gives that is taken behind k bytes of a chunk has room behind what they printed
+pub next_room : (r : CardReader) (bs : List ℕ) (k b room : ℕ) (o : Result CardGiven CardRefusal) → byte_given (chunk_next r (take k bs)) b ≡ Some o → k < length bs → 123 * (held r + length bs) ≤ room → length (feed_text r (take k bs)) + room_of o ≤ room
+next_room r bs k b room o h l m =
     let n : length (take k bs) ≤ k = rw length-take (omega arith) in
-    omega (arith, chunk_room r (take k bs), room_of_line (feed_next r (take k bs)))
+    let before = chunk_next r (take k bs) in
+    let same = (taken before b o h).1 in
+    rw same (omega (arith, chunk_room r (take k bs), room_of_line before))
 
 -- what a chunk prints, laid over bytes that have room
-pub chunk_laid : (r : Replay) (bs xs : List ℕ) → 123 * (held r + length bs) ≤ length xs → sets xs 0 (feed_text r bs) ≡ laid (feed_text r bs) xs
+pub chunk_laid : (r : CardReader) (bs xs : List ℕ) → 123 * (held r + length bs) ≤ length xs → sets xs 0 (feed_text r bs) ≡ laid (feed_text r bs) xs
 chunk_laid r bs xs h = sets-laid xs (feed_text r bs) (omega (arith, chunk_room r bs))
 
 -- a line that has no newline is one refused card, of one line
-pub last_room : (s : Session) → room_of (card_given s (Err NotOfForm)).outcome ≤ 70
-unfolding room_of card_given refused_card given_by
-last_room s = omega arith
+pub last_room : (r : CardReader) → room_of (last_given r).outcome ≤ 70
+unfolding room_of last_given card_given refused_card given_by
+last_room r = omega arith
 
-pub last_length : (s : Session) → length (given_text (card_given s (Err NotOfForm))) ≤ 70
-unfolding given_text
-last_length s = let a = card_given s (Err NotOfForm) in omega (arith, (fits a.session.cards a.outcome).0, last_room s)
+-- what it gives is what the end prints; and where there is none the end prints nothing
+pub end_taken : (r : CardReader) (o : Result CardGiven CardRefusal) → end_given r ≡ Some o → (last_text r ≡ outcome_text (end_next r).session.cards o) × (o ≡ (last_given r).outcome)
+unfolding end_given end_next ended_by last_text given_text
+end_taken r o h = go (eqb r.partial.filled 0) refl
+  where
+    go : (t : Bool) → eqb r.partial.filled 0 ≡ t → (last_text r ≡ outcome_text (end_next r).session.cards o) × (o ≡ (last_given r).outcome)
+    go true e = let none : None ≡ Some o = rw e at h in absurd cc
+    go false e =
+        let same : Some (last_given r).outcome ≡ Some o = rw e at h in
+        let of-some : (last_given r).outcome ≡ o = cc in
+        rw (e, of-some) (refl, refl)
 
-pub last_laid : (s : Session) (xs : List ℕ) → 70 ≤ length xs → sets xs 0 (given_text (card_given s (Err NotOfForm))) ≡ laid (given_text (card_given s (Err NotOfForm))) xs
-last_laid s xs h = sets-laid xs (given_text (card_given s (Err NotOfForm))) (omega (arith, last_length s))
+pub end_room : (r : CardReader) (o : Result CardGiven CardRefusal) → end_given r ≡ Some o → room_of o ≤ 70
+end_room r o h = rw (end_taken r o h).1 (last_room r)
+
+pub end_none : (r : CardReader) → end_given r ≡ None → last_text r ≡ []
+unfolding end_given last_text
+end_none r h = go (eqb r.partial.filled 0) refl
+  where
+    go : (t : Bool) → eqb r.partial.filled 0 ≡ t → last_text r ≡ []
+    go true e = rw e refl
+    go false e = let some : Some (last_given r).outcome ≡ None = rw e at h in absurd cc
+
+-- the end's text, and laid over bytes that have room
+pub last_length : (r : CardReader) → length (last_text r) ≤ 70
+unfolding last_text given_text
+last_length r = go (eqb r.partial.filled 0) refl
+  where
+    go : (t : Bool) → eqb r.partial.filled 0 ≡ t → length (last_text r) ≤ 70
+    go true e = rw e (omega arith)
+    go false e = let a = last_given r in rw e (omega (arith, (fits a.session.cards a.outcome).0, last_room r))
+
+pub last_laid : (r : CardReader) (xs : List ℕ) → 70 ≤ length xs → sets xs 0 (last_text r) ≡ laid (last_text r) xs
+last_laid r xs h = sets-laid xs (last_text r) (omega (arith, last_length r))

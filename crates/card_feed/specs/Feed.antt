@@ -1,14 +1,14 @@
 -- Document 02, wish 1, from bytes to bytes: what a whole input prints, and the same a chunk at a time, as the program reads it. Definitions
 -- only.
-use Rattle.std.specs.Prelude.{ℕ, Bool, false, cond, List, [], ◌∷◌, ◌++◌, eqb, leb, min, replicate, Err}
-use Rattle.card_events.specs.declared.CardRefusal.TheVariants.{NotOfForm}
-use Rattle.cards.specs.Cards.{event_read}
-use Rattle.card_partials.specs.Partials.{kept_by, partial_read}
+use Rattle.std.specs.Prelude.{ℕ, Bool, false, cond, List, [], ◌∷◌, ◌++◌, eqb, leb, min, Result}
+use Rattle.card_events.specs.declared.Event.{Event}
+use Rattle.card_events.specs.declared.CardRefusal.{CardRefusal}
 use Rattle.card_sessions.specs.declared.Session.{Session}
 use Rattle.card_sessions.specs.declared.CardAnswer.{CardAnswer}
 use Rattle.card_sessions.specs.Sessions.{blank_session, card_given}
 use Rattle.card_lines.specs.Lines.{outcome_text}
-use Rattle.card_feed.specs.declared.Replay.{Replay}
+use Rattle.card_reader.specs.declared.CardReader.{CardReader}
+use Rattle.card_reader.specs.Reader.{cards_in, line_given, last_given, byte_next, chunk_next}
 
 -- ---- the whole input
 
@@ -16,60 +16,34 @@ use Rattle.card_feed.specs.declared.Replay.{Replay}
 unfoldable pub given_text : CardAnswer → List ℕ
 given_text a = outcome_text a.session.cards a.outcome
 
--- What is left of a line that has no newline: nothing, or a line that is not of the form.
-abbrev pub rest_text : Session → List ℕ → List ℕ
-rest_text s [] = []
-rest_text s (b ∷ line) = given_text (card_given s (Err NotOfForm))
-
--- Byte by byte: `line` is what was read since the last newline. A newline ends the line, which is a card; the next one is taken in the
--- session that it leaves.
-unfoldable pub cards_text : Session → List ℕ → List ℕ → List ℕ
-cards_text s line [] = rest_text s line
-cards_text s line (b ∷ bs) =
-    cond (eqb b 10)
-    (given_text (card_given s (event_read line)) ++ cards_text (card_given s (event_read line)).session [] bs)
-    (cards_text s (line ++ (b ∷ [])) bs)
+-- Card after card, each taken in the session that the one before it leaves.
+unfoldable pub cards_text : Session → List (Result Event CardRefusal) → List ℕ
+cards_text s [] = []
+cards_text s (c ∷ cs) = given_text (card_given s c) ++ cards_text (card_given s c).session cs
 
 -- What the program prints.
 unfoldable pub replay_text : List ℕ → List ℕ
-replay_text input = cards_text blank_session [] input
+replay_text input = cards_text blank_session (cards_in input)
 
--- ---- a chunk at a time, in fixed memory: of a line at most 73 bytes are kept
+-- ---- a chunk at a time
 
-unfoldable pub blank_replay : Replay
-blank_replay = record { partial = record { filled = 0; columns = replicate 73 0 }; session = blank_session }
+-- What a byte prints: where it is a newline, the card's lines.
+abbrev pub byte_text : CardReader → ℕ → List ℕ
+byte_text r b = cond (eqb b 10) (given_text (line_given r)) []
 
-unfoldable pub line_given : Replay → CardAnswer
-line_given r = card_given r.session (partial_read r.partial)
-
--- A newline: the card's lines, and what it leaves.
-abbrev pub ended_text : Replay → List ℕ
-ended_text r = given_text (line_given r)
-
-unfoldable pub ended : Replay → Replay
-ended r = record { partial = record { filled = 0; columns = r.partial.columns }; session = (line_given r).session }
-
-abbrev pub kept_in : Replay → ℕ → Replay
-kept_in r b = record { partial = kept_by r.partial b; session = r.session }
-
--- What a chunk leaves.
-unfoldable pub feed_next : Replay → List ℕ → Replay
-feed_next r [] = r
-feed_next r (b ∷ bs) = cond (eqb b 10) (feed_next (ended r) bs) (feed_next (kept_in r b) bs)
-
--- What it prints.
-unfoldable pub feed_text : Replay → List ℕ → List ℕ
+-- What a chunk prints.
+unfoldable pub feed_text : CardReader → List ℕ → List ℕ
 feed_text r [] = []
-feed_text r (b ∷ bs) = cond (eqb b 10) (ended_text r ++ feed_text (ended r) bs) (feed_text (kept_in r b) bs)
+feed_text r (b ∷ bs) = byte_text r b ++ feed_text (byte_next r b) bs
 
 -- What the end of the input prints.
-unfoldable pub last_text : Replay → List ℕ
-last_text r = cond (eqb r.partial.filled 0) [] (given_text (card_given r.session (Err NotOfForm)))
+unfoldable pub last_text : CardReader → List ℕ
+last_text r = cond (eqb r.partial.filled 0) [] (given_text (last_given r))
 
 -- Chunk after chunk, then the end: the program's loop.
-unfoldable pub chunks_text : Replay → List (List ℕ) → List ℕ
+unfoldable pub chunks_text : CardReader → List (List ℕ) → List ℕ
 chunks_text r [] = last_text r
-chunks_text r (c ∷ cs) = feed_text r c ++ chunks_text (feed_next r c) cs
+chunks_text r (c ∷ cs) = feed_text r c ++ chunks_text (chunk_next r c) cs
 
 -- ---- what the calls answer
 
@@ -78,9 +52,9 @@ abbrev pub has_room : ℕ → ℕ → Bool
 has_room input room = cond (leb input 4096) (leb 512910 room) false
 
 -- How many bytes of a line are held.
-abbrev pub held : Replay → ℕ
+abbrev pub held : CardReader → ℕ
 held r = min r.partial.filled 74
 
 -- The end, where there is room for a line.
-unfoldable pub last_bytes : Replay → ℕ → List ℕ
+unfoldable pub last_bytes : CardReader → ℕ → List ℕ
 last_bytes r room = cond (leb 70 room) (last_text r) []

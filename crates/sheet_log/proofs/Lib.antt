@@ -1,0 +1,2 @@
+-- Why the log says what the sheet's last row is.
+pub mod Laws

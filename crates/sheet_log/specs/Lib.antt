@@ -1,0 +1,3 @@
+-- What the log says of the shift sheet.
+pub mod Told
+pub mod Claims

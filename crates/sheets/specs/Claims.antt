@@ -1,0 +1,62 @@
+-- What is claimed of the shift sheet. Each claim is proved in proofs/Laws.antt under the same name in small letters. Statements only.
+use Rattle.std.specs.Prelude.{ℕ, ◌*◌, ◌≤◌, ◌≡◌, true, false, cond, List, [], ◌∷◌, ◌++◌, eqb, length, Option, Some, None, Ok}
+use Rattle.std.specs.List.{between}
+use Rattle.bitmap.specs.Operations.{count_of}
+use Rattle.columns.specs.Columns.{number_of}
+use Rattle.lease.specs.declared.Manager.{Manager}
+use Rattle.lease.specs.Calls.{is_quiet, grant_set, lease_set}
+use Rattle.lease.specs.RecordCheck.{record_valid}
+use Rattle.sheets.specs.declared.SheetRow.{SheetRow}
+use Rattle.sheets.specs.Sheet.{is_granted, is_leased, count_rows, peer_rows, total_row, sheet_rows, row_columns, sheet_text}
+
+-- ---- the totals
+
+-- They equal the rows: grant states 2 and 3, and active held promises.
+abbrev pub TotalsAreRows : Type 0
+TotalsAreRows =
+    (m : Manager)
+    → (sheet_rows m ≡ peer_rows m ++ (total_row m ∷ []))
+    × ((total_row m).grant ≡ count_rows is_granted (peer_rows m))
+    × ((total_row m).held ≡ count_rows is_leased (peer_rows m))
+
+-- The second is the size of the lease set, in quiet time too.
+abbrev pub HeldIsLeaseSet : Type 0
+HeldIsLeaseSet = (m : Manager) → record_valid m ≡ true → count_of (lease_set m) ≡ Ok (total_row m).held
+
+-- The first is the size of the grant set outside quiet time.
+abbrev pub GrantIsGrantSet : Type 0
+GrantIsGrantSet = (m : Manager) → record_valid m ≡ true → is_quiet m.now m.quiet_timer ≡ false → count_of (grant_set m) ≡ Ok (total_row m).grant
+
+-- ---- the columns
+
+-- The numbers have room in their columns.
+abbrev pub HasRoom : SheetRow → Type 0
+HasRoom r = (r.id ≤ 9999) × (r.grant ≤ 999) × (r.grant_left ≤ 99_999_999) × (r.held ≤ 999) × (r.held_left ≤ 99_999_999)
+
+abbrev pub AllHaveRoom : List SheetRow → Type 0
+AllHaveRoom [] = Unit {0}
+AllHaveRoom (r ∷ rs) = HasRoom r × AllHaveRoom rs
+
+-- Of a record that is not refused every row has room.
+abbrev pub Fits : Type 0
+Fits = (m : Manager) → record_valid m ≡ true → AllHaveRoom (sheet_rows m)
+
+-- How a row without its newline is read back: a number in each of its columns.
+abbrev pub numbers_in : Option ℕ → Option ℕ → Option ℕ → Option ℕ → Option ℕ → Option SheetRow
+numbers_in (Some id) (Some grant) (Some grant_left) (Some held) (Some held_left) =
+    Some (record { id = id; grant = grant; grant_left = grant_left; held = held; held_left = held_left })
+numbers_in id grant grant_left held held_left = None
+
+unfoldable pub row_read : List ℕ → Option SheetRow
+row_read line =
+    cond (eqb (length line) 26)
+    (numbers_in (number_of (between 0 4 line)) (number_of (between 4 7 line)) (number_of (between 7 15 line)) (number_of (between 15 18 line)) (number_of (between 18 26 line)))
+    None
+
+-- Then what is printed is read back as the row's numbers.
+abbrev pub WrittenIsRead : Type 0
+WrittenIsRead = (r : SheetRow) → HasRoom r → row_read (row_columns r) ≡ Some r
+
+-- A sheet has a row for each peer and one for the totals, 27 bytes each.
+abbrev pub Length : Type 0
+Length = (m : Manager) → record_valid m ≡ true → length (sheet_text m) ≡ 27 * m.population

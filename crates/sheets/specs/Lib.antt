@@ -1,0 +1,3 @@
+-- The shift sheet, and what is claimed of it.
+pub mod Sheet
+pub mod Claims

@@ -1,0 +1,115 @@
+-- Document 02, wish 4, the shift sheet: its rows, of the rules' record, and how they are printed. Definitions only.
+use Rattle.std.specs.Prelude.{ℕ, zero, suc, ◌+◌, Bool, true, false, cond, List, [], ◌∷◌, ◌++◌, length, replicate, eqb, ltb, Option, None, Some, Result, Ok, Err}
+use Rattle.bitmap.specs.Sets.{one}
+use Rattle.timer.specs.declared.Reading.{Reading}
+use Rattle.timer.specs.declared.Timer.{Timer}
+use Rattle.timer.specs.Timers.{ms_left}
+use Rattle.lease.specs.declared.Peer.{Peer}
+use Rattle.lease.specs.declared.Manager.{Manager}
+use Rattle.lease.specs.declared.Refusal.{Refusal}
+use Rattle.lease.specs.Rows.{row_at, promise_timer}
+use Rattle.lease.specs.RecordCheck.{record_valid}
+use Rattle.lease.specs.Refusals.{judged}
+use Rattle.columns.specs.Columns.{column}
+use Rattle.card_lines.specs.Lines.{laid}
+use Rattle.card_sessions.specs.declared.Session.{Session}
+use Rattle.sheets.specs.declared.SheetRow.{SheetRow}
+use Rattle.sheets.specs.declared.Sheet.{Sheet}
+
+-- ---- one peer
+
+-- Grant state: 0 none, 1 guard, 2 promise, 3 promise being revoked.
+abbrev pub grant_state : Option Timer → Option (Timer × Bool) → ℕ
+grant_state guard (Some (t, true)) = 3
+grant_state guard (Some (t, false)) = 2
+grant_state (Some t) None = 1
+grant_state None None = 0
+
+-- Held state: 0, 1, 2 likewise.
+abbrev pub held_state : Option Timer → Option Timer → ℕ
+held_state guard (Some t) = 2
+held_state (Some t) None = 1
+held_state None None = 0
+
+-- The timer of one side: of its promise if there is one, else of its guard.
+abbrev pub timer_of : Option Timer → Option Timer → Option Timer
+timer_of guard (Some t) = Some t
+timer_of guard None = guard
+
+-- Ms left round up, and are 0 for an unarmed or exploded timer or none.
+abbrev pub left_on : Reading → Option Timer → ℕ
+left_on now None = 0
+left_on now (Some t) = ms_left now t
+
+unfoldable pub peer_row : Reading → ℕ → Peer → SheetRow
+peer_row now id row =
+    record {
+      id = id;
+      grant = grant_state row.guard_sent row.promise_sent;
+      grant_left = left_on now (timer_of row.guard_sent (promise_timer row.promise_sent));
+      held = held_state row.guard_held row.promise_held;
+      held_left = left_on now (timer_of row.guard_held row.promise_held);
+    }
+
+-- ---- the rows
+
+-- A row for each peer by id, own id left out: those of the ids below k.
+unfoldable pub rows_below : Manager → ℕ → List SheetRow
+rows_below m zero = []
+rows_below m (suc k) = rows_below m k ++ cond (eqb k m.me) [] (peer_row m.now k (row_at m.peers k) ∷ [])
+
+abbrev pub peer_rows : Manager → List SheetRow
+peer_rows m = rows_below m m.population
+
+-- Grant states 2 and 3.
+abbrev pub is_granted : SheetRow → Bool
+is_granted r = cond (eqb r.grant 2) true (eqb r.grant 3)
+
+-- Active held promises: state 2, ms above 0.
+abbrev pub is_leased : SheetRow → Bool
+is_leased r = cond (eqb r.held 2) (ltb 0 r.held_left) false
+
+unfoldable pub count_rows : (SheetRow → Bool) → List SheetRow → ℕ
+count_rows p [] = 0
+count_rows p (r ∷ rs) = one (p r) + count_rows p rs
+
+-- The last row, in the same fields: population, number of grant states 2 and 3, 0, number of active held promises, 0.
+abbrev pub totals : ℕ → ℕ → ℕ → SheetRow
+totals population grants leases = record { id = population; grant = grants; grant_left = 0; held = leases; held_left = 0 }
+
+unfoldable pub total_row : Manager → SheetRow
+total_row m = totals m.population (count_rows is_granted (peer_rows m)) (count_rows is_leased (peer_rows m))
+
+abbrev pub sheet_rows : Manager → List SheetRow
+sheet_rows m = peer_rows m ++ (total_row m ∷ [])
+
+-- ---- as bytes
+
+-- id (4 columns), grant state (3), grant ms left (8), held state (3), held ms left (8).
+unfoldable pub row_columns : SheetRow → List ℕ
+row_columns r = column 4 r.id ++ column 3 r.grant ++ column 8 r.grant_left ++ column 3 r.held ++ column 8 r.held_left
+
+-- With a newline.
+unfoldable pub row_text : SheetRow → List ℕ
+row_text r = row_columns r ++ (10 ∷ [])
+
+unfoldable pub rows_text : List SheetRow → List ℕ
+rows_text [] = []
+rows_text (r ∷ rs) = row_text r ++ rows_text rs
+
+abbrev pub sheet_text : Manager → List ℕ
+sheet_text m = rows_text (sheet_rows m)
+
+-- ---- what the call answers
+
+-- A text in the bytes of a sheet, which has room for 64 rows; 0 behind it.
+unfoldable pub printed : List ℕ → Sheet
+printed text = record { length = length text; bytes = laid text (replicate 1728 0) }
+
+-- Without an accepted set-up the sheet is empty; a record is looked at first.
+unfoldable pub sheet_on : Option Manager → Result Sheet Refusal
+sheet_on None = Ok (printed [])
+sheet_on (Some m) = judged (record_valid m) (Ok tt) (λ k. Err k) (Ok (printed (sheet_text m)))
+
+abbrev pub sheet_of : Session → Result Sheet Refusal
+sheet_of s = sheet_on s.manager
