@@ -38,7 +38,7 @@ use Rattle.lease.specs.SetUp.{setup_refusal, fresh, setup_of}
 use Rattle.lease.specs.Refusals.{notice_refusal, advance_refusal, refresh_refusal}
 use Rattle.lease.proofs.Judged.{judged-by, plain_of}
 use Rattle.lease.specs.Verdicts.{done, Call, notice, advance, quiet-start, refresh, drift, grant-set, lease-set, lease-cnt, time-left, by_notice, by_advance, by_plain, by_set, by_count, by_time_left, verdict, lines_of}
-use Rattle.lease_log.specs.Demand3.{Typed, AllTyped, grants_by, leases_by, lease_count_by, LogDecides, Demand3}
+use Rattle.lease_log.specs.Demand3.{Typed, AllTyped, grants_by, leases_by, lease_count_by, LogDecides, run_of, Demand3}
 use Rattle.lease_log.specs.Log.{stamped, open_lines, is_open, promise_lines, ended_lines, no_line, last_held, QuietStart, never, since, Journal, noted, journal_at, Run, stepped, run_from, quiet_since, quiet_time, is_leased}
 use Rattle.lease_log.proofs.Base.{Same, same, apart, sameb, Below, below, above, belowb, AtMost, at_most, beyond, lebb, both, sum_below-cong, count_where-sum}
 use Rattle.lease_log.proofs.Base as Base
@@ -195,7 +195,7 @@ module _ (m : Manager) (j : Journal) (i : Inv m j) where
   abbrev n : ℕ
   n = m.population
 
-  same-quiet : is_quiet m.now m.quiet_timer ≡ quiet_time t j
+  pub same-quiet : is_quiet m.now m.quiet_timer ≡ quiet_time t j
   same-quiet = go m.quiet_timer j.quiet i.quiet_ok
     where
       go : (q : Option Reading) (k : QuietStart) → QuietOk t m.now q k → is_quiet m.now q ≡ quiet_since t j.now k
@@ -218,7 +218,7 @@ module _ (m : Manager) (j : Journal) (i : Inv m j) where
       go (same e k) = rw (e, is_first)
       go (apart e k) = rw (e, is_first)
 
-  open_is : (p : ℕ) → p < n → is_first P.Granted m.me m.peers p ≡ is_open j.log p
+  pub open_is : (p : ℕ) → p < n → is_first P.Granted m.me m.peers p ≡ is_open j.log p
   open_is p h = go (sameb p m.me)
     where
       agree : granted (row_at m.peers p).promise_sent ≡ is_open j.log p
@@ -228,7 +228,7 @@ module _ (m : Manager) (j : Journal) (i : Inv m j) where
       go (same e k) = rw (e, is_first) (subst (λ r. granted r.promise_sent ≡ is_open j.log p) (own-empty p h e) agree)
       go (apart e k) = rw (e, is_first) agree
 
-  lease-is : (p : ℕ) → p < n → is_first (P.Leased m.now) m.me m.peers p ≡ is_leased t j p
+  pub lease-is : (p : ℕ) → p < n → is_first (P.Leased m.now) m.me m.peers p ≡ is_leased t j p
   lease-is p h = go (sameb p m.me)
     where
       agree : active_entry m.now (row_at m.peers p).promise_held ≡ is_leased t j p
@@ -361,11 +361,24 @@ accepted me n t hb now h = go (setup_refusal me n t hb now) refl h
     go (Ok x) e h = (e, refl)
     go (Err k) e h = absurd (let z : ◌≡◌ {A = ℕ} 0 1 = cc in omega arith)
 
--- ---- DEMAND 3, of the rules
+-- ---- what an accepted set-up and a list of calls lead to
 
-pub demand-3 : Demand3
+-- the invariant holds, of a manager with own id me, population n and T = t
+pub record Reached (me n t : ℕ) (r : Run) : Type 0 where
+  pub inv : Inv r.manager r.journal
+  pub same-me : r.manager.me ≡ me
+  pub same-n : r.manager.population ≡ n
+  pub same-t : r.manager.expire_timeout ≡ t
+
+pub reached : (me n t hb : ℕ) (now : Reading) → (setup_of me n t hb now).outcome ≡ (Ok tt) → (calls : List Call) → AllTyped calls
+    → Reached me n t (run_of me n t hb now calls)
 unfolding fresh
-demand-3 me n t hb now h calls f = there
+reached me n t hb now h calls f = record {
+  inv = g.0;
+  same-me = g.1.me-kept ∙ ap (λ m. m.me) start;
+  same-n = g.1.n_kept ∙ ap (λ m. m.population) start;
+  same-t = g.1.t-kept ∙ ap (λ m. m.expire_timeout) start;
+}
   where
     first : Run
     first = record { manager = (setup_of me n t hb now).manager; journal = journal_at now }
@@ -376,23 +389,27 @@ demand-3 me n t hb now h calls f = there
     g : RunInv first (run_from first calls)
     g = run-inv calls f first (subst (λ m. Inv m (journal_at now)) (sym start) (fresh-inv me n t hb now (accepted me n t hb now h).0))
 
+-- ---- DEMAND 3, of the rules
+
+pub demand-3 : Demand3
+demand-3 me n t hb now h calls f = there
+  where
+    r : Run
+    r = run_of me n t hb now calls
+
     end : Manager
-    end = (run_from first calls).manager
+    end = r.manager
 
     j : Journal
-    j = (run_from first calls).journal
+    j = r.journal
+
+    e : Reached me n t r
+    e = reached me n t hb now h calls f
 
     here : LogDecides end.me end.population end.expire_timeout end j
-    here = decided end j g.0
-
-    e1 : end.me ≡ me
-    e1 = g.1.me-kept ∙ ap (λ m. m.me) start
-
-    e2 : end.population ≡ n
-    e2 = g.1.n_kept ∙ ap (λ m. m.population) start
-
-    e3 : end.expire_timeout ≡ t
-    e3 = g.1.t-kept ∙ ap (λ m. m.expire_timeout) start
+    here = decided end j e.inv
 
     there : LogDecides me n t end j
-    there = subst (λ x. LogDecides x n t end j) e1 (subst (λ x. LogDecides end.me x t end j) e2 (subst (λ x. LogDecides end.me end.population x end j) e3 here))
+    there =
+        subst (λ x. LogDecides x n t end j) e.same-me
+        (subst (λ x. LogDecides end.me x t end j) e.same-n (subst (λ x. LogDecides end.me end.population x end j) e.same-t here))

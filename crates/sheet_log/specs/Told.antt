@@ -1,7 +1,5 @@
 -- What the cards of an input say to the manager: the set-up that was accepted, and the calls after it. Definitions only.
 use Rattle.std.specs.Prelude.{ℕ, List, [], ◌∷◌, ◌++◌, Option, None, Some, Result, Ok, Err}
-use Rattle.timer.specs.declared.Reading.{Reading}
-use Rattle.lease.specs.declared.Manager.{Manager}
 use Rattle.lease.specs.declared.Refusal.{Refusal}
 use Rattle.lease.specs.SetUp.{setup_of}
 use Rattle.lease.specs.Verdicts.{Call, notice, advance}

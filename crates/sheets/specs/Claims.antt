@@ -1,13 +1,11 @@
 -- What is claimed of the shift sheet. Each claim is proved in proofs/Laws.antt under the same name in small letters. Statements only.
-use Rattle.std.specs.Prelude.{ℕ, ◌*◌, ◌≤◌, ◌≡◌, true, false, cond, List, [], ◌∷◌, ◌++◌, eqb, length, Option, Some, None, Ok}
-use Rattle.std.specs.List.{between}
+use Rattle.std.specs.Prelude.{◌*◌, ◌≤◌, ◌≡◌, true, false, List, [], ◌∷◌, ◌++◌, length, Some, Ok}
 use Rattle.bitmap.specs.Operations.{count_of}
-use Rattle.columns.specs.Columns.{number_of}
 use Rattle.lease.specs.declared.Manager.{Manager}
 use Rattle.lease.specs.Calls.{is_quiet, grant_set, lease_set}
 use Rattle.lease.specs.RecordCheck.{record_valid}
 use Rattle.sheets.specs.declared.SheetRow.{SheetRow}
-use Rattle.sheets.specs.Sheet.{is_granted, is_leased, count_rows, peer_rows, total_row, sheet_rows, row_columns, sheet_text}
+use Rattle.sheets.specs.Sheet.{is_granted, is_leased, count_rows, peer_rows, total_row, sheet_rows, row_columns, row_read, sheet_text}
 
 -- ---- the totals
 
@@ -41,19 +39,7 @@ AllHaveRoom (r ∷ rs) = HasRoom r × AllHaveRoom rs
 abbrev pub Fits : Type 0
 Fits = (m : Manager) → record_valid m ≡ true → AllHaveRoom (sheet_rows m)
 
--- How a row without its newline is read back: a number in each of its columns.
-abbrev pub numbers_in : Option ℕ → Option ℕ → Option ℕ → Option ℕ → Option ℕ → Option SheetRow
-numbers_in (Some id) (Some grant) (Some grant_left) (Some held) (Some held_left) =
-    Some (record { id = id; grant = grant; grant_left = grant_left; held = held; held_left = held_left })
-numbers_in id grant grant_left held held_left = None
-
-unfoldable pub row_read : List ℕ → Option SheetRow
-row_read line =
-    cond (eqb (length line) 26)
-    (numbers_in (number_of (between 0 4 line)) (number_of (between 4 7 line)) (number_of (between 7 15 line)) (number_of (between 15 18 line)) (number_of (between 18 26 line)))
-    None
-
--- Then what is printed is read back as the row's numbers.
+-- And what is printed is read back as the row's numbers.
 abbrev pub WrittenIsRead : Type 0
 WrittenIsRead = (r : SheetRow) → HasRoom r → row_read (row_columns r) ≡ Some r
 

@@ -1,5 +1,6 @@
 -- Document 02, wish 4, the shift sheet: its rows, of the rules' record, and how they are printed. Definitions only.
 use Rattle.std.specs.Prelude.{ℕ, zero, suc, ◌+◌, Bool, true, false, cond, List, [], ◌∷◌, ◌++◌, length, replicate, eqb, ltb, Option, None, Some, Result, Ok, Err}
+use Rattle.std.specs.List.{between}
 use Rattle.bitmap.specs.Sets.{one}
 use Rattle.timer.specs.declared.Reading.{Reading}
 use Rattle.timer.specs.declared.Timer.{Timer}
@@ -10,7 +11,7 @@ use Rattle.lease.specs.declared.Refusal.{Refusal}
 use Rattle.lease.specs.Rows.{row_at, promise_timer}
 use Rattle.lease.specs.RecordCheck.{record_valid}
 use Rattle.lease.specs.Refusals.{judged}
-use Rattle.columns.specs.Columns.{column}
+use Rattle.columns.specs.Columns.{column, number_of}
 use Rattle.card_lines.specs.Lines.{laid}
 use Rattle.card_sessions.specs.declared.Session.{Session}
 use Rattle.sheets.specs.declared.SheetRow.{SheetRow}
@@ -99,6 +100,20 @@ rows_text (r ∷ rs) = row_text r ++ rows_text rs
 
 abbrev pub sheet_text : Manager → List ℕ
 sheet_text m = rows_text (sheet_rows m)
+
+-- ---- reading a row back
+
+-- A row without its newline, read back: a number in each of its columns.
+abbrev pub numbers_in : Option ℕ → Option ℕ → Option ℕ → Option ℕ → Option ℕ → Option SheetRow
+numbers_in (Some id) (Some grant) (Some grant_left) (Some held) (Some held_left) =
+    Some (record { id = id; grant = grant; grant_left = grant_left; held = held; held_left = held_left })
+numbers_in id grant grant_left held held_left = None
+
+unfoldable pub row_read : List ℕ → Option SheetRow
+row_read line =
+    cond (eqb (length line) 26)
+    (numbers_in (number_of (between 0 4 line)) (number_of (between 4 7 line)) (number_of (between 7 15 line)) (number_of (between 15 18 line)) (number_of (between 18 26 line)))
+    None
 
 -- ---- what the call answers
 

@@ -2,11 +2,11 @@
 // them in specs/Claims.
 #![tactic(auto)]
 
-ghost use Rattle.std.specs.Prelude.{◌*◌, ◌≤◌, ◌≡◌, length};
+ghost use Rattle.std.specs.Prelude.{◌*◌, ◌≤◌, ◌≡◌, [], length};
 ghost use Rattle.bitmap.specs.Bitmaps.{capacity};
 ghost use Rattle.lease.specs.RecordCheck.{record_valid};
 ghost use Rattle.card_lines.specs.Lines.{laid};
-ghost use Rattle.sheets.specs.Sheet.{grant_state, held_state, timer_of, left_on, peer_row, peer_rows, total_row, row_text, rows_text, sheet_text};
+ghost use Rattle.sheets.specs.Sheet.{grant_state, held_state, timer_of, left_on, peer_row, peer_rows, total_row, row_text, rows_text, sheet_text, printed};
 ghost use Rattle.sheets.specs.Sheet.{sheet_of as Sheet·sheet_of};
 
 use card_sessions::Session;
@@ -147,7 +147,7 @@ fn put_row(out: &mut [u8], r: SheetRow) -> usize
 }
 
 // The rows of the peers, by id.
-#[tactic(auto, unfolding(crate::specs::Sheet::rows_below))]
+#[tactic(auto, using(crate::proofs::Text::own_skipped, crate::proofs::Text::row_more, crate::proofs::Text::below_length, crate::proofs::Text::peers_length, card_lines::proofs::Text::laid_behind), unfolding(crate::specs::Sheet::rows_below, crate::specs::Sheet::rows_text))]
 fn put_peers(out: &mut [u8], m: &Manager) -> usize
     requires population_le_capacity { m.now.population ≤ capacity }
     requires room { 27 * m.now.population ≤ length out.old }
@@ -165,6 +165,7 @@ fn put_peers(out: &mut [u8], m: &Manager) -> usize
 }
 
 // And the last one.
+#[tactic(auto, using(crate::proofs::Text::sheet_parts, crate::proofs::Text::sheet_length, crate::proofs::Text::peers_length, card_lines::proofs::Text::laid_behind))]
 fn put_sheet(out: &mut [u8], checked: CheckedManager) -> usize
     requires { 1728 ≤ length out.old }
     ensures value { result ≡ length (sheet_text checked.manager) }
@@ -174,15 +175,33 @@ fn put_sheet(out: &mut [u8], checked: CheckedManager) -> usize
     written + put_row(&mut out[written..], total_row(checked))
 }
 
-// The sheet of the session that the cards left. Without an accepted set-up it is empty.
-#[tactic(auto, unfolding(crate::specs::Sheet::sheet_on, crate::specs::Sheet::printed))]
+// The sheet of a record.
+#[tactic(auto, unfolding(crate::specs::Sheet::printed))]
+fn print_sheet(checked: CheckedManager) -> Sheet
+    ensures { result ≡ printed (sheet_text checked.manager) }
+{
+    let mut bytes = [0; ROOM];
+    let length = put_sheet(&mut bytes, checked);
+    Sheet { length, bytes }
+}
+
+#[tactic(auto, unfolding(crate::specs::Sheet::printed))]
+fn empty_sheet() -> Sheet
+    ensures { result ≡ printed [] }
+{
+    Sheet {
+        length: 0,
+        bytes: [0; ROOM],
+    }
+}
+
+// The sheet of the session that cards left: empty without an accepted set-up. A record that no cards lead to is refused with 15.
+#[tactic(auto, unfolding(crate::specs::Sheet::sheet_on))]
 pub fn sheet_of(session: Session) -> Result<Sheet, Refusal>
     ensures { result ≡ Sheet·sheet_of session }
 {
-    let mut bytes = [0; ROOM];
-    let length = match session.manager {
-        None => 0,
-        Some(m) => put_sheet(&mut bytes, check_record(m)?),
-    };
-    Ok(Sheet { length, bytes })
+    match session.manager {
+        None => Ok(empty_sheet()),
+        Some(m) => Ok(print_sheet(check_record(m)?)),
+    }
 }

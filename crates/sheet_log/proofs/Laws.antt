@@ -1,0 +1,73 @@
+-- Every claim of specs/Claims under its name: the log's counts are the passes', the passes' are the sheet's; and the session that the cards
+-- leave has the record of the rules' run. Assumes nothing.
+use Rattle.std.specs.Prelude.{Option, None, Some, Ok}
+use Prim.Native.Nat.{ℕ, ◌+◌}
+use mathlib.Core.Path.{◌≡◌, refl, ap, sym, ◌∙◌}
+use mathlib.Core.Bool.{true, false}
+use mathlib.Core.List.{List, [], ◌∷◌, ◌++◌}
+use Rattle.lease.specs.declared.Manager.{Manager}
+use Rattle.lease.specs.RecordCheck.{record_valid}
+use Rattle.lease_log.specs.Log.{Journal, Run, never, quiet_since, quiet_time, ended_lines}
+use Rattle.lease_log.specs.Demand3.{LogDecides, run_of}
+use Rattle.lease_log.specs.Counts.{LogCounts}
+use Rattle.lease_log.proofs.Demand3.{demand-3}
+use Rattle.lease_log.proofs.Counts.{counts}
+use Rattle.card_sessions.specs.Sessions.{blank_session}
+use Rattle.card_reader.specs.Reader.{cards_in, session_of}
+use Rattle.sheets.specs.declared.SheetRow.{SheetRow}
+use Rattle.sheets.specs.Sheet.{peer_rows, total_row, rows_text, printed, sheet_on}
+use Rattle.sheets.proofs.Totals.{granted_rows, leased_rows}
+use Rattle.sheets.proofs.Laws.{held-is-lease-set, grant-is-grant-set}
+use Rattle.sheet_log.specs.Told.{Told, told_by, run-told}
+use Rattle.sheet_log.specs.Claims.{totals_by, LogTotals, TotalsByLog, PrintedFor, PrintedByLog}
+use Rattle.sheet_log.proofs.Told.{manager_of, cards-same, SoundTold, cards-sound}
+
+-- ---- the rules
+
+module _ (me n t : ℕ) (r : Run) (d : LogDecides me n t r.manager r.journal) (c : LogCounts n t r.manager r.journal) where
+  -- what the log counts makes the last row
+  row-by_log : total_row r.manager ≡ totals_by n t r.journal
+  unfolding total_row
+  row-by_log = rw (granted_rows r.manager, leased_rows r.manager, c.granted, c.leased, c.population)
+
+  -- and with what it decides, all that is claimed of the last row
+  totals-are : LogTotals n t r
+  totals-are = record {
+    valid = d.never-15;
+    last_row = row-by_log;
+    promises = d.promises ∙ ap (λ row. ended_lines r.journal.log + row.grant) (sym row-by_log);
+    leases = held-is-lease-set r.manager d.never-15;
+    grants = λ q. grant-is-grant-set r.manager d.never-15 (c.same-quiet ∙ q);
+  }
+
+pub totals-by-log : TotalsByLog
+totals-by-log me n t hb now h calls f =
+    totals-are me n t (run_of me n t hb now calls) (demand-3 me n t hb now h calls f) (counts me n t hb now h calls f)
+
+-- ---- the program
+
+-- before a quiet start it is never quiet time
+never-quiet : (t : ℕ) (j : Journal) → j.quiet ≡ never → quiet_time t j ≡ false
+never-quiet t j e = ap (λ q. quiet_since t j.now q) e
+
+-- of a record that is not refused the sheet is printed, with the last row as it is known to be
+printed_of : (m : Manager) (row : SheetRow) → record_valid m ≡ true → total_row m ≡ row
+    → sheet_on (Some m) ≡ Ok (printed (rows_text (peer_rows m ++ (row ∷ []))))
+unfolding sheet_on
+printed_of m row v e = rw (v, e)
+
+-- so a session whose record is that of what was told prints what is claimed
+printed-told : (input : List ℕ) (x : Option Told) → (session_of input).manager ≡ manager_of x → SoundTold x → PrintedFor input x
+unfolding sheet_on
+printed-told input None e k = ap sheet_on e
+printed-told input (Some x) e k =
+    let u = x.set_up in
+    let all = totals-by-log u.me u.population u.expire_timeout u.heartbeat u.now k.accepted x.calls k.typed in (
+      ap sheet_on e ∙ printed_of (run-told x).manager _ all.valid all.last_row,
+      all,
+      never-quiet u.expire_timeout (run-told x).journal k.no_quiet,
+    )
+
+pub printed-by-log : PrintedByLog
+unfolding blank_session
+printed-by-log input = printed-told input (told_by input) (cards-same (cards_in input) blank_session None refl) (cards-sound (cards_in input) None tt)
