@@ -9,10 +9,7 @@ ghost use Rattle.card_reader.specs.Reader.{chunk_next, end_next};
 ghost use Rattle.card_feed.specs.Feed.{feed_text, has_room, last_bytes, held};
 
 use card_lines::{LINE, put_outcome};
-use card_reader::CardReader;
-
-// The most bytes that are taken at a time.
-pub const MOST_INPUT: usize = 4096;
+use card_reader::{CardReader, MOST_INPUT};
 
 // The room that their lines need: for each byte of theirs and of a line before them 123, since 74 bytes give at most 129
 // lines of 70.

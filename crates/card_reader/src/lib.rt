@@ -11,6 +11,9 @@ use card_partials::Partial;
 use card_sessions::{Session, blank_session, take_card};
 use cards::COLUMNS;
 
+// The most bytes that programs read, and hand over, at a time.
+pub const MOST_INPUT: usize = 4096;
+
 // What ends a line.
 const NEWLINE: u8 = b'\n';
 

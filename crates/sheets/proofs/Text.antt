@@ -74,3 +74,7 @@ sheet_parts m = rw (text_of_both (peer_rows m) (total_row m ∷ []), text_of_one
 
 pub sheet_length : (m : Manager) → length (sheet_text m) ≡ length (rows_text (peer_rows m)) + length (row_text (total_row m))
 sheet_length m = rw (sheet_parts m, length-append (rows_text (peer_rows m)) (row_text (total_row m))) refl
+
+-- a sheet has room in its bytes
+pub sheet_room : (m : Manager) → m.me < m.population → m.population ≤ 64 → length (sheet_text m) ≤ 1728
+sheet_room m h k = rw (sheet_length m, length_row (total_row m)) (omega (arith, peers_length m h))

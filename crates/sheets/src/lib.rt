@@ -2,7 +2,7 @@
 // them in specs/Claims.
 #![tactic(auto)]
 
-ghost use Rattle.std.specs.Prelude.{◌*◌, ◌≤◌, ◌≡◌, [], length};
+ghost use Rattle.std.specs.Prelude.{◌*◌, ◌≤◌, ◌≡◌, [], length, IfOk};
 ghost use Rattle.bitmap.specs.Bitmaps.{capacity};
 ghost use Rattle.lease.specs.RecordCheck.{record_valid};
 ghost use Rattle.card_lines.specs.Lines.{laid};
@@ -176,9 +176,10 @@ fn put_sheet(out: &mut [u8], checked: CheckedManager) -> usize
 }
 
 // The sheet of a record.
-#[tactic(auto, unfolding(crate::specs::Sheet::printed))]
+#[tactic(auto, using(crate::proofs::Text::sheet_room), unfolding(crate::specs::Sheet::printed))]
 fn print_sheet(checked: CheckedManager) -> Sheet
-    ensures { result ≡ printed (sheet_text checked.manager) }
+    ensures value { result ≡ printed (sheet_text checked.manager) }
+    ensures in_bounds { result.length ≤ 1728 }
 {
     let mut bytes = [0; ROOM];
     let length = put_sheet(&mut bytes, checked);
@@ -187,7 +188,8 @@ fn print_sheet(checked: CheckedManager) -> Sheet
 
 #[tactic(auto, unfolding(crate::specs::Sheet::printed))]
 fn empty_sheet() -> Sheet
-    ensures { result ≡ printed [] }
+    ensures value { result ≡ printed [] }
+    ensures in_bounds { result.length ≤ 1728 }
 {
     Sheet {
         length: 0,
@@ -198,7 +200,8 @@ fn empty_sheet() -> Sheet
 // The sheet of the session that cards left: empty without an accepted set-up. A record that no cards lead to is refused with 15.
 #[tactic(auto, unfolding(crate::specs::Sheet::sheet_on))]
 pub fn sheet_of(session: Session) -> Result<Sheet, Refusal>
-    ensures { result ≡ Sheet·sheet_of session }
+    ensures value { result ≡ Sheet·sheet_of session }
+    ensures in_bounds { IfOk result (λ sheet. sheet.length ≤ 1728) }
 {
     match session.manager {
         None => Ok(empty_sheet()),

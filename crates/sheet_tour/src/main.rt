@@ -1,0 +1,7 @@
+// The program sheet over a file with every grant state and every held state, active, exploded and revoking promises, and refused cards:
+// docs/SHEET.md explains its sheet line by line.
+#![tactic(auto)]
+
+fn main(rt: HostRuntime) -> anyhow::Result<()> {
+    sheet_filter::run(&rt)
+}
