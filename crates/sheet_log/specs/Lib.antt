@@ -1,3 +1,4 @@
 -- What the log says of the shift sheet.
 pub mod Told
 pub mod Claims
+pub mod Examples

@@ -1,13 +1,13 @@
 -- The claims of the shift sheet: its totals, the room in its columns, what is written is read, and its length. Assumes nothing.
 use Rattle.std.specs.Prelude.{Option, None, Some, Ok}
-use Prim.Native.Nat.{ℕ, zero, suc, ◌+◌, ◌^◌, ◌≤◌, ◌<◌}
+use Prim.Native.Nat.{ℕ, zero, suc, ◌+◌, ◌*◌, ◌^◌, ◌≤◌, ◌<◌}
 use mathlib.Core.Path.{◌≡◌, refl, sym, ap, ◌∙◌}
 use mathlib.Core.Bool.{Bool, true, false, cond, ◌&&◌}
 use mathlib.Core.List.{List, [], ◌∷◌, ◌++◌}
 use native.Mathlib.Omega.{arith}
 use lib.Dec.{eqb, leb, ltb}
-use lib.ListN.{length-append}
-use borrow.Author.Tests.{ne_eqb, leb-true, lt-ltb, le-ltb}
+use lib.ListN.{length}
+use borrow.Author.Tests.{eqb-true, ne_eqb, leb-true, lt-ltb, le-ltb}
 use Rattle.std.specs.List.{between}
 use Rattle.bitmap.specs.Bitmaps.{capacity, bitmap_where, is_one}
 use Rattle.bitmap.specs.Sets.{count_where}
@@ -20,7 +20,8 @@ use Rattle.timer.specs.declared.Timer.{Timer}
 use Rattle.timer.specs.declared.Timer.TheVariants.{Unarmed, Armed, Exploded}
 use Rattle.timer.specs.Timers.{ms_left, farthest}
 use Rattle.columns.specs.Columns.{places, column, max_number, number_of}
-use Rattle.columns.proofs.Laws.{written-is-read as column-read}
+use Rattle.columns.proofs.Laws.{written-is-read as column-read, part-written}
+use Rattle.columns.proofs.Parts.{between-whole, between-join}
 use Rattle.lease.specs.declared.Peer.{Peer}
 use Rattle.lease.specs.declared.Manager.{Manager}
 use Rattle.lease.specs.Pass as P
@@ -32,10 +33,10 @@ use Rattle.lease.proofs.Tests.{both, fst-of, snd-of}
 use Rattle.lease.proofs.RecordCheck.{rows_of, row-of}
 use Rattle.record_check.proofs.Laws.{fits as record-fits}
 use Rattle.sheets.specs.declared.SheetRow.{SheetRow}
-use Rattle.sheets.specs.Sheet.{grant_state, held_state, timer_of, left_on, peer_row, rows_below, peer_rows, total_row, row_columns, numbers_in, row_read}
-use Rattle.sheets.specs.Claims.{TotalsAreRows, HeldIsLeaseSet, GrantIsGrantSet, HasRoom, AllHaveRoom, Fits, WrittenIsRead, Length}
-use Rattle.sheets.proofs.Totals.{granted_rows, leased_rows, rows_count}
-use Rattle.sheets.proofs.Text.{length-columns, length_rows}
+use Rattle.sheets.specs.Sheet.{grant_state, held_state, timer_of, left_on, peer_row, rows_below, peer_rows, total_row, row_columns, row_of, numbers_in, row_read, sheet_text}
+use Rattle.sheets.specs.Claims.{TotalsAreRows, HeldIsLeaseSet, GrantIsGrantSet, HasRoom, AllHaveRoom, Fits, WrittenIsRead, ReadIsWritten, SheetLength}
+use Rattle.sheets.proofs.Totals.{granted_rows, leased_rows}
+use Rattle.sheets.proofs.Text.{length-columns, length_row, peers_length, sheet_length}
 
 -- ---- the totals
 
@@ -234,11 +235,57 @@ written-is-read r h =
     (column-says _ 2 r.held (held-part r) (omega arith) (omega arith))
     (column-says _ 7 r.held_left (held_left-part r) (omega arith) (omega arith)))
 
+-- ---- what is read is what is written
+
+-- a row that is read has its length
+of_length : (x : Bool) (found : Option SheetRow) (r : SheetRow) → cond x found None ≡ Some r → (x ≡ true) × (found ≡ Some r)
+of_length true found r e = (refl, e)
+of_length false found r e = absurd cc
+
+-- Five numbers, each of which is read, are that row's.
+abbrev AllSay : Option ℕ → Option ℕ → Option ℕ → Option ℕ → Option ℕ → SheetRow → Type 0
+AllSay a b d f g r = (a ≡ Some r.id) × (b ≡ Some r.grant) × (d ≡ Some r.grant_left) × (f ≡ Some r.held) × (g ≡ Some r.held_left)
+
+all-say : (a b d f g : Option ℕ) (r : SheetRow) → numbers_in a b d f g ≡ Some r → AllSay a b d f g r
+all-say (Some a) (Some b) (Some d) (Some f) (Some g) r e = let same : row_of a b d f g ≡ r = cc in rw (← same) (refl, refl, refl, refl, refl)
+all-say None b d f g r e = absurd cc
+all-say (Some a) None d f g r e = absurd cc
+all-say (Some a) (Some b) None f g r e = absurd cc
+all-say (Some a) (Some b) (Some d) None g r e = absurd cc
+all-say (Some a) (Some b) (Some d) (Some f) None r e = absurd cc
+
+-- the parts make the row
+parts-joined : (line : List ℕ) → length line ≡ 26 → between 0 4 line ++ between 4 7 line ++ between 7 15 line ++ between 15 18 line ++ between 18 26 line ≡ line
+parts-joined line n =
+    rw (
+      between-join 0 4 7 line (omega arith) (omega arith) (omega arith),
+      between-join 0 7 15 line (omega arith) (omega arith) (omega arith),
+      between-join 0 15 18 line (omega arith) (omega arith) (omega arith),
+      between-join 0 18 26 line (omega arith) (omega arith) (omega arith),
+    )
+    (rw n at (between-whole line))
+
+-- so a row that is read is what its numbers are written as
+pub read-is-written : ReadIsWritten
+unfolding row_read row_columns
+read-is-written line r e =
+    let a = of_length (eqb (length line) 26) _ r e in
+    let n : length line ≡ 26 = eqb-true (length line) 26 a.0 in
+    let say = all-say _ _ _ _ _ r a.1 in
+    rw (
+      part-written 0 4 r.id line (omega arith) say.0,
+      part-written 4 3 r.grant line (omega arith) say.1,
+      part-written 7 8 r.grant_left line (omega arith) say.2,
+      part-written 15 3 r.held line (omega arith) say.3,
+      part-written 18 8 r.held_left line (omega arith) say.4,
+    )
+    (parts-joined line n)
+
 -- ---- the length
 
 -- a row for each peer and one for the totals, 27 bytes each
-pub length : Length
-length m v =
-    let own = (record-fits m v).own in
-    rw (length_rows (peer_rows m ++ (total_row m ∷ [])), length-append (peer_rows m) (total_row m ∷ []))
-    (omega (arith, rows_count m m.population own))
+pub sheet-length : SheetLength
+sheet-length m v =
+    let f = record-fits m v in
+    let parts : length (sheet_text m) ≡ 27 * m.population = rw (sheet_length m, length_row (total_row m)) (peers_length m f.own) in
+    (parts, omega (arith, parts, f.few))

@@ -1,5 +1,5 @@
 -- What is claimed of the shift sheet. Each claim is proved in proofs/Laws.antt under the same name in small letters. Statements only.
-use Rattle.std.specs.Prelude.{◌*◌, ◌≤◌, ◌≡◌, true, false, List, [], ◌∷◌, ◌++◌, length, Some, Ok}
+use Rattle.std.specs.Prelude.{ℕ, ◌*◌, ◌≤◌, ◌≡◌, true, false, List, [], ◌∷◌, ◌++◌, length, Some, Ok}
 use Rattle.bitmap.specs.Operations.{count_of}
 use Rattle.lease.specs.declared.Manager.{Manager}
 use Rattle.lease.specs.Calls.{is_quiet, grant_set, lease_set}
@@ -43,6 +43,10 @@ Fits = (m : Manager) → record_valid m ≡ true → AllHaveRoom (sheet_rows m)
 abbrev pub WrittenIsRead : Type 0
 WrittenIsRead = (r : SheetRow) → HasRoom r → row_read (row_columns r) ≡ Some r
 
--- A sheet has a row for each peer and one for the totals, 27 bytes each.
-abbrev pub Length : Type 0
-Length = (m : Manager) → record_valid m ≡ true → length (sheet_text m) ≡ 27 * m.population
+-- And what is read is what the row is written as.
+abbrev pub ReadIsWritten : Type 0
+ReadIsWritten = (line : List ℕ) (r : SheetRow) → row_read line ≡ Some r → row_columns r ≡ line
+
+-- A sheet has a row for each peer and one for the totals, 27 bytes each, and has room in the bytes that are printed.
+abbrev pub SheetLength : Type 0
+SheetLength = (m : Manager) → record_valid m ≡ true → (length (sheet_text m) ≡ 27 * m.population) × (length (sheet_text m) ≤ 1728)

@@ -103,10 +103,13 @@ sheet_text m = rows_text (sheet_rows m)
 
 -- ---- reading a row back
 
+-- The row of five numbers.
+abbrev pub row_of : ℕ → ℕ → ℕ → ℕ → ℕ → SheetRow
+row_of id grant grant_left held held_left = record { id = id; grant = grant; grant_left = grant_left; held = held; held_left = held_left }
+
 -- A row without its newline, read back: a number in each of its columns.
 abbrev pub numbers_in : Option ℕ → Option ℕ → Option ℕ → Option ℕ → Option ℕ → Option SheetRow
-numbers_in (Some id) (Some grant) (Some grant_left) (Some held) (Some held_left) =
-    Some (record { id = id; grant = grant; grant_left = grant_left; held = held; held_left = held_left })
+numbers_in (Some id) (Some grant) (Some grant_left) (Some held) (Some held_left) = Some (row_of id grant grant_left held held_left)
 numbers_in id grant grant_left held held_left = None
 
 unfoldable pub row_read : List ℕ → Option SheetRow
