@@ -17,6 +17,10 @@ use Rattle.card_sessions.specs.declared.Session.{Session}
 use Rattle.sheets.specs.declared.SheetRow.{SheetRow}
 use Rattle.sheets.specs.declared.Sheet.{Sheet}
 
+-- The row of five numbers, in the order of their columns.
+abbrev pub row_of : ℕ → ℕ → ℕ → ℕ → ℕ → SheetRow
+row_of id grant grant_left held held_left = record { id = id; grant = grant; grant_left = grant_left; held = held; held_left = held_left }
+
 -- ---- one peer
 
 -- Grant state: 0 none, 1 guard, 2 promise, 3 promise being revoked.
@@ -44,13 +48,9 @@ left_on now (Some t) = ms_left now t
 
 unfoldable pub peer_row : Reading → ℕ → Peer → SheetRow
 peer_row now id row =
-    record {
-      id = id;
-      grant = grant_state row.guard_sent row.promise_sent;
-      grant_left = left_on now (timer_of row.guard_sent (promise_timer row.promise_sent));
-      held = held_state row.guard_held row.promise_held;
-      held_left = left_on now (timer_of row.guard_held row.promise_held);
-    }
+    row_of id
+    (grant_state row.guard_sent row.promise_sent) (left_on now (timer_of row.guard_sent (promise_timer row.promise_sent)))
+    (held_state row.guard_held row.promise_held) (left_on now (timer_of row.guard_held row.promise_held))
 
 -- ---- the rows
 
@@ -76,7 +76,7 @@ count_rows p (r ∷ rs) = one (p r) + count_rows p rs
 
 -- The last row, in the same fields: population, number of grant states 2 and 3, 0, number of active held promises, 0.
 abbrev pub totals : ℕ → ℕ → ℕ → SheetRow
-totals population grants leases = record { id = population; grant = grants; grant_left = 0; held = leases; held_left = 0 }
+totals population grants leases = row_of population grants 0 leases 0
 
 unfoldable pub total_row : Manager → SheetRow
 total_row m = totals m.population (count_rows is_granted (peer_rows m)) (count_rows is_leased (peer_rows m))
@@ -102,10 +102,6 @@ abbrev pub sheet_text : Manager → List ℕ
 sheet_text m = rows_text (sheet_rows m)
 
 -- ---- reading a row back
-
--- The row of five numbers.
-abbrev pub row_of : ℕ → ℕ → ℕ → ℕ → ℕ → SheetRow
-row_of id grant grant_left held held_left = record { id = id; grant = grant; grant_left = grant_left; held = held; held_left = held_left }
 
 -- A row without its newline, read back: a number in each of its columns.
 abbrev pub numbers_in : Option ℕ → Option ℕ → Option ℕ → Option ℕ → Option ℕ → Option SheetRow
