@@ -15,8 +15,12 @@
 //!   the columns of `crates/rust_sample`:
 //!   `paste -d '\n' CALLS ANSWERS | sessions sample --cards FILE --answers FILE`.
 //! - `cards` draws sessions at random as event cards, puts them to the program `replay` and compares
-//!   the lines that it prints with the oracle's answers.
-//! - `expect` reads event cards and prints what `replay` should print, by the oracle's answers.
+//!   the lines that it prints with the oracle's answers; and to the program `sheet`, whose sheet is
+//!   compared with the oracle's state at the end.
+//! - `expect` reads event cards and prints what `replay` should print, with `--sheet` what `sheet`
+//!   should, by the oracle's answers.
+//! - `sheets` draws short sessions and writes their cards, and the sheets that `sheet` should print,
+//!   to files of a folder, as `rt try --cases` takes them.
 mod answer;
 mod call;
 mod cards;
@@ -46,8 +50,9 @@ sessions run --seed S --calls N [--mode wide|near|whole|drift|bitmap] --oracle P
 sessions record --seed S --calls N [--mode wide|near|whole] [--few]
 sessions choose --seed S --times N
 sessions sample --cards FILE --answers FILE
-sessions cards --seed S --cards N [--mode wide|near|whole] --oracle PATH --replay PATH
-sessions expect --oracle PATH";
+sessions cards --seed S --cards N [--mode wide|near|whole] --oracle PATH --replay PATH --sheet PATH
+sessions expect --oracle PATH [--sheet]
+sessions sheets --seed S --sessions N [--mode wide|near|whole] --oracle PATH --cases FOLDER";
 
 struct Arguments(Vec<String>);
 
@@ -109,9 +114,25 @@ fn sample(arguments: &Arguments) -> Result<(), String> {
 
 fn cards(arguments: &Arguments) -> Result<(), String> {
     let (seed, least) = (arguments.number("--seed")?, arguments.number("--cards")?);
-    let (oracle, replay) = (arguments.needed("--oracle")?, arguments.needed("--replay")?);
+    let programs = cards::Programs {
+        oracle: arguments.needed("--oracle")?,
+        replay: arguments.needed("--replay")?,
+        sheet: arguments.needed("--sheet")?,
+    };
     let (name, mode) = arguments.mode()?;
-    cards::run(name, mode, seed, least, oracle, replay).map_err(|error| error.to_string())
+    cards::run(name, mode, seed, least, &programs).map_err(|error| error.to_string())
+}
+
+fn expect(arguments: &Arguments) -> Result<(), String> {
+    let sheet = arguments.0.iter().any(|word| word == "--sheet");
+    cards::expect(arguments.needed("--oracle")?, sheet).map_err(|error| error.to_string())
+}
+
+fn sheets(arguments: &Arguments) -> Result<(), String> {
+    let (seed, sessions) = (arguments.number("--seed")?, arguments.number("--sessions")?);
+    let (oracle, folder) = (arguments.needed("--oracle")?, arguments.needed("--cases")?);
+    cards::write_sheets(arguments.mode()?.1, seed, sessions, oracle, folder)
+        .map_err(|error| error.to_string())
 }
 
 fn main() -> ExitCode {
@@ -124,9 +145,8 @@ fn main() -> ExitCode {
         Some("choose") => choose(&arguments),
         Some("sample") => sample(&arguments),
         Some("cards") => cards(&arguments),
-        Some("expect") => arguments
-            .needed("--oracle")
-            .and_then(|path| cards::expect(path).map_err(|error| error.to_string())),
+        Some("expect") => expect(&arguments),
+        Some("sheets") => sheets(&arguments),
         _ => Err(USAGE.to_string()),
     };
     match done {

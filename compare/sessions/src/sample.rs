@@ -120,20 +120,24 @@ struct Row {
     held_at: u64,
 }
 
+/// Which timer of an entry is an exploded one.
+pub const EXPLODED: usize = 2;
+
 // An entry `peer@timer`: the peer, whether it is revoking, which of (unarmed, armed, exploded) it
-// is, the deadline.
+// is, the deadline, or 0 if it is not armed.
 fn entry(words: &str) -> Option<(usize, bool, usize, u64)> {
     let (peer, timer) = words.split_once('@')?;
     let (timer, revoking) = timer.strip_suffix('r').map_or((timer, false), |t| (t, true));
     let (which, at) = match timer {
         "u" => (0, 0),
-        "x" => (2, 0),
+        "x" => (EXPLODED, 0),
         at => (1, at.parse().ok()?),
     };
     Some((peer.parse().ok().filter(|peer| *peer < 64)?, revoking, which, at))
 }
 
-fn entries(table: &str) -> Option<Vec<(usize, bool, usize, u64)>> {
+/// The entries of a table.
+pub fn entries(table: &str) -> Option<Vec<(usize, bool, usize, u64)>> {
     table.split(',').filter(|words| !words.is_empty()).map(entry).collect()
 }
 
@@ -162,8 +166,8 @@ fn rows(gs: &str, gh: &str, ps: &str, ph: &str, marks: &str) -> Option<[Row; 64]
     Some(rows)
 }
 
-// Line 40, and a line 41 for each id with anything in its row.
-fn values(state: &str) -> Option<[&str; 8]> {
+/// The parts of a state: now, num, gs, gh, ps, ph, m, q.
+pub fn values(state: &str) -> Option<[&str; 8]> {
     let names = ["now=", "num=", "gs=", "gh=", "ps=", "ph=", "m=", "q="];
     let mut values = [""; 8];
     let mut parts = state.split(' ');
@@ -178,6 +182,7 @@ fn rows_of(state: &str) -> Option<[Row; 64]> {
     rows(gs, gh, ps, ph, marks)
 }
 
+// Line 40, and a line 41 for each id with anything in its row.
 fn state_lines(state: &str) -> Option<Vec<LineC>> {
     let [now, num, .., quiet] = values(state)?;
     let quiet = if quiet == "-" { 0 } else { quiet.parse().ok()? };

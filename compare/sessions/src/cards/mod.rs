@@ -1,8 +1,10 @@
 //! Random sessions as event cards (document 02, wish 1): each goes through the program `replay`, and
-//! what it prints is compared with the oracle's answers written as output lines. Calls that no card
-//! can carry are left out, on both sides. Among the cards are refused ones and lines spoiled on
-//! purpose; what is expected of those is judged here (`read`, then 23, then `judge`).
+//! what it prints is compared with the oracle's answers written as output lines; and through the
+//! program `sheet`, whose sheet is compared with the oracle's state at the end (`sheet`). Calls that
+//! no card can carry are left out, on both sides. Among the cards are refused ones and lines spoiled
+//! on purpose; what is expected of those is judged here (`read`, then 23, then `judge`).
 mod read;
+mod sheet;
 mod spoil;
 
 use crate::call::Call;
@@ -11,7 +13,10 @@ use crate::judge::Judge;
 use crate::random::Random;
 use crate::sample;
 use crate::side::Side;
+use sheet::{Met, Sheet};
+use std::fs;
 use std::io::{self, BufRead, BufReader, Read, Write};
+use std::path::Path;
 use std::process::{Child, ChildStdin, ChildStdout, Command, Stdio};
 use std::thread;
 use std::time::Instant;
@@ -71,6 +76,8 @@ enum Expected {
 #[derive(Default)]
 struct Cards {
     input: Vec<u8>,
+    /// How much of the input comes before the set-up that is accepted.
+    early: usize,
     expected: Vec<Expected>,
     calls: Vec<Call>,
 }
@@ -117,9 +124,9 @@ fn has_card(call: &Call) -> bool {
 }
 
 impl Draw {
-    fn new(seed: u64, mode: Mode) -> Draw {
+    fn new(seed: u64, mode: Mode, limits: Limits) -> Draw {
         Draw {
-            generator: Generator::new(seed, mode, Limits::ALL),
+            generator: Generator::new(seed, mode, limits),
             random: Random::new(seed ^ 0x5eed),
             before: Before::default(),
             side: Side::new(false),
@@ -182,6 +189,7 @@ impl Draw {
         if let Some(refused) = self.generator.refused_set_up() {
             self.drawn(Call::SetUp(refused), &mut cards);
         }
+        cards.early = cards.input.len();
         self.drawn(Call::SetUp(set_up), &mut cards);
         for _ in 0..self.generator.length() {
             let call = self.generator.next(&self.side.record);
@@ -222,20 +230,34 @@ fn expected_lines(cards: &Cards, answers: &[String]) -> io::Result<String> {
     Ok(text)
 }
 
-// What `replay` prints, read while a thread hands it the cards.
-fn replayed(path: &str, input: &[u8]) -> io::Result<Vec<u8>> {
+// The sheet of a session; none without an accepted set-up.
+fn expected_sheet(cards: &Cards, answers: &[String]) -> io::Result<Option<Sheet>> {
+    let (Some(Call::SetUp(set_up)), Some(answer)) = (cards.calls.first(), answers.last()) else {
+        return Ok(None);
+    };
+    let sheet = Sheet::of(set_up, sample::state_of(answer));
+    sheet.ok_or_else(|| io::Error::other(format!("no state in the answer {answer}"))).map(Some)
+}
+
+// What a program prints, read while a thread hands it the cards.
+fn printed(path: &str, input: &[u8]) -> io::Result<Vec<u8>> {
     let mut process = Command::new(path)
         .stdin(Stdio::piped())
         .stdout(Stdio::piped())
         .spawn()
         .map_err(|error| io::Error::new(error.kind(), format!("{path}: {error}")))?;
     let mut cards = process.stdin.take().expect("a piped input");
-    thread::scope(|scope| {
+    let output = thread::scope(|scope| {
         let writer = scope.spawn(move || cards.write_all(input));
         let output = process.wait_with_output()?;
         writer.join().expect("no panic")?;
-        Ok(output.stdout)
-    })
+        io::Result::Ok(output)
+    })?;
+    if !output.status.success() {
+        let (status, cards) = (output.status, String::from_utf8_lossy(input));
+        return Err(io::Error::other(format!("{path}: {status} with these cards:\n{cards}")));
+    }
+    Ok(output.stdout)
 }
 
 fn differ(cards: &Cards, expected: &str, got: &[u8]) -> io::Error {
@@ -250,8 +272,8 @@ fn differ(cards: &Cards, expected: &str, got: &[u8]) -> io::Error {
     ))
 }
 
-/// Reads cards on standard input and prints what `replay` should, by the oracle's answers.
-pub fn expect(oracle: &str) -> io::Result<()> {
+/// Reads cards on standard input and prints what `replay` should, or `sheet`, by the oracle's answers.
+pub fn expect(oracle: &str, sheet: bool) -> io::Result<()> {
     let mut input = Vec::new();
     io::stdin().lock().read_to_end(&mut input)?;
     let (mut before, mut cards) = (Before::default(), Cards::default());
@@ -265,32 +287,64 @@ pub fn expect(oracle: &str) -> io::Result<()> {
     let mut oracle = Asked::start(oracle)?;
     let answers = oracle.ask(&cards.calls)?;
     oracle.end()?;
-    io::stdout().write_all(expected_lines(&cards, &answers)?.as_bytes())
+    let text = if sheet {
+        expected_sheet(&cards, &answers)?.map_or(String::new(), |sheet| sheet.text())
+    } else {
+        expected_lines(&cards, &answers)?
+    };
+    io::stdout().write_all(text.as_bytes())
 }
 
-/// Runs random sessions as cards, and compares every line that `replay` prints.
-pub fn run(
-    name: &str,
-    mode: Mode,
-    seed: u64,
-    least: u64,
-    oracle: &str,
-    replay: &str,
-) -> io::Result<()> {
+/// The programs, by their paths.
+pub struct Programs<'a> {
+    pub oracle: &'a str,
+    pub replay: &'a str,
+    pub sheet: &'a str,
+}
+
+// Compares all that `replay` prints; answers how many lines.
+fn compare_lines(replay: &str, session: &Cards, answers: &[String]) -> io::Result<usize> {
+    let expected = expected_lines(session, answers)?;
+    let got = printed(replay, &session.input)?;
+    if got != expected.as_bytes() {
+        return Err(differ(session, &expected, &got));
+    }
+    Ok(expected.lines().count())
+}
+
+// Compares what `sheet` prints.
+fn compare_sheet(path: &str, input: &[u8], sheet: Option<&Sheet>, met: &mut Met) -> io::Result<()> {
+    let expected = sheet.map_or(String::new(), Sheet::text);
+    let got = printed(path, input)?;
+    if got != expected.as_bytes() {
+        return Err(io::Error::other(format!(
+            "DIFFERENCE in the sheet of these cards:\n{}expected:\n{expected}sheet:\n{}",
+            String::from_utf8_lossy(input),
+            String::from_utf8_lossy(&got),
+        )));
+    }
+    met.add(sheet);
+    Ok(())
+}
+
+/// Runs random sessions as cards, and compares every line that `replay` prints, the sheet of each
+/// session, and the empty one of the cards before its set-up.
+pub fn run(name: &str, mode: Mode, seed: u64, least: u64, programs: &Programs) -> io::Result<()> {
     let begin = Instant::now();
-    let mut oracle = Asked::start(oracle)?;
-    let mut draw = Draw::new(seed, mode);
+    let mut oracle = Asked::start(programs.oracle)?;
+    let mut draw = Draw::new(seed, mode, Limits::ALL);
     let (mut cards, mut sessions, mut lines) = (0, 0, 0);
+    let mut met = Met::default();
     while cards < least {
         let session = draw.session();
         let answers = oracle.ask(&session.calls)?;
-        let expected = expected_lines(&session, &answers)?;
-        let got = replayed(replay, &session.input)?;
-        if got != expected.as_bytes() {
-            return Err(differ(&session, &expected, &got));
+        lines += compare_lines(programs.replay, &session, &answers)?;
+        let sheet = expected_sheet(&session, &answers)?;
+        compare_sheet(programs.sheet, &session.input, sheet.as_ref(), &mut met)?;
+        if session.early > 0 {
+            compare_sheet(programs.sheet, &session.input[..session.early], None, &mut met)?;
         }
         cards += session.expected.len() as u64;
-        lines += expected.lines().count();
         sessions += 1;
     }
     oracle.end()?;
@@ -299,10 +353,32 @@ pub fn run(
         "cards, mode {name}, seed {seed}: {cards} cards in {sessions} sessions, {lines} lines \
          compared, 0 differ; {seconds:.1} s"
     );
-    let met: Vec<String> = (1..24)
+    let refused: Vec<String> = (1..24)
         .filter(|k| draw.refused[*k] > 0)
         .map(|k| format!("{k}: {}", draw.refused[k]))
         .collect();
-    println!("  refused, by number: {}", met.join(", "));
+    println!("  refused, by number: {}", refused.join(", "));
+    print!("{}", met.shown());
     Ok(())
+}
+
+/// Writes random sessions of few ids as cards, each to a file of the folder, and the sheet that it
+/// should give to a file `.stdout` beside it.
+pub fn write_sheets(
+    mode: Mode,
+    seed: u64,
+    sessions: u64,
+    oracle: &str,
+    folder: &str,
+) -> io::Result<()> {
+    let mut oracle = Asked::start(oracle)?;
+    let mut draw = Draw::new(seed, mode, Limits::FEW);
+    for i in 0..sessions {
+        let session = draw.session();
+        let sheet = expected_sheet(&session, &oracle.ask(&session.calls)?)?;
+        let text = sheet.as_ref().map_or(String::new(), Sheet::text);
+        fs::write(Path::new(folder).join(format!("session{i}")), &session.input)?;
+        fs::write(Path::new(folder).join(format!("session{i}.stdout")), text)?;
+    }
+    oracle.end()
 }

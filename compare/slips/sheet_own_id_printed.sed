@@ -1,0 +1,2 @@
+# sheets: the own id has a row too
+s/if i != m\.me {/if i != m.population {/
