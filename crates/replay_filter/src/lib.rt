@@ -14,8 +14,8 @@ fn write_out(lines: &[u8], to: &mut impl Write) -> Result<()> {
     to.write_all(lines).context("standard output")
 }
 
-// The program.
-pub fn run(rt: &(impl Input + Print)) -> Result<()> {
+// Reads to the end, and writes what each chunk gives.
+fn move_all(rt: &(impl Input + Print)) -> Result<()> {
     let mut from = rt.reader();
     let mut to = io::writer(rt);
     let mut out = [0; ROOM];
@@ -26,4 +26,9 @@ pub fn run(rt: &(impl Input + Print)) -> Result<()> {
     })?;
     let n = finish(&mut reader, &mut out);
     write_out(&out[..n], &mut to)
+}
+
+// The program. Where it fails, it says its name first.
+pub fn run(rt: &(impl Input + Print)) -> Result<()> {
+    move_all(rt).context("replay")
 }

@@ -10,8 +10,8 @@ use sheets::sheet_of;
 use std::io;
 use std::io::Write;
 
-// The program.
-pub fn run(rt: &(impl Input + Print)) -> Result<()> {
+// Reads to the end, and writes the sheet.
+fn move_all(rt: &(impl Input + Print)) -> Result<()> {
     let mut from = rt.reader();
     let mut reader = blank_reader();
     each_chunk(&mut from, |chunk| {
@@ -28,4 +28,9 @@ pub fn run(rt: &(impl Input + Print)) -> Result<()> {
     io::writer(rt)
         .write_all(&sheet.bytes[..sheet.length])
         .context("standard output")
+}
+
+// The program. Where it fails, it says its name first.
+pub fn run(rt: &(impl Input + Print)) -> Result<()> {
+    move_all(rt).context("sheet")
 }

@@ -12,15 +12,17 @@ use Rattle.lease_log.specs.Demand3.{LogDecides, run_of}
 use Rattle.lease_log.specs.Counts.{LogCounts}
 use Rattle.lease_log.proofs.Demand3.{demand-3}
 use Rattle.lease_log.proofs.Counts.{counts}
-use Rattle.card_sessions.specs.Sessions.{blank_session}
+use Rattle.card_sessions.specs.declared.Session.{Session}
+use Rattle.card_sessions.specs.Sessions.{blank_session, counted}
+use Rattle.card_sessions.proofs.Laws.{refused-keeps}
 use Rattle.card_reader.specs.Reader.{cards_in, session_of}
 use Rattle.sheets.specs.declared.SheetRow.{SheetRow}
 use Rattle.sheets.specs.Sheet.{peer_rows, total_row, rows_text, printed, sheet_on}
 use Rattle.sheets.proofs.Totals.{granted_rows, leased_rows}
 use Rattle.sheets.proofs.Laws.{held-is-lease-set, grant-is-grant-set}
-use Rattle.sheet_log.specs.Told.{Told, told_by, run-told}
-use Rattle.sheet_log.specs.Claims.{totals_by, LogTotals, TotalsByLog, PrintedFor, PrintedByLog}
-use Rattle.sheet_log.proofs.Told.{manager_of, cards-same, SoundTold, cards-sound}
+use Rattle.sheet_log.specs.CardCalls.{CardCalls, calls_of, run_of_cards}
+use Rattle.sheet_log.specs.Claims.{totals_by, LogTotals, TotalsByLog, PrintedFor, PrintedByLog, RefusedSkipped}
+use Rattle.sheet_log.proofs.CardCalls.{manager_of, cards-same, AllSound, cards-sound}
 
 -- ---- the rules
 
@@ -56,18 +58,23 @@ printed_of : (m : Manager) (row : SheetRow) → record_valid m ≡ true → tota
 unfolding sheet_on
 printed_of m row v e = rw (v, e)
 
--- so a session whose record is that of what was told prints what is claimed
-printed-told : (input : List ℕ) (x : Option Told) → (session_of input).manager ≡ manager_of x → SoundTold x → PrintedFor input x
+-- so a session whose record is that of the cards' calls prints what is claimed
+printed-for : (input : List ℕ) (x : Option CardCalls) → (session_of input).manager ≡ manager_of x → AllSound x → PrintedFor input x
 unfolding sheet_on
-printed-told input None e k = ap sheet_on e
-printed-told input (Some x) e k =
+printed-for input None e k = ap sheet_on e
+printed-for input (Some x) e k =
     let u = x.set_up in
     let all = totals-by-log u.me u.population u.expire_timeout u.heartbeat u.now k.accepted x.calls k.typed in (
-      ap sheet_on e ∙ printed_of (run-told x).manager _ all.valid all.last_row,
+      ap sheet_on e ∙ printed_of (run_of_cards x).manager _ all.valid all.last_row,
       all,
-      never-quiet u.expire_timeout (run-told x).journal k.no_quiet,
+      never-quiet u.expire_timeout (run_of_cards x).journal k.no_quiet,
     )
 
 pub printed-by-log : PrintedByLog
 unfolding blank_session
-printed-by-log input = printed-told input (told_by input) (cards-same (cards_in input) blank_session None refl) (cards-sound (cards_in input) None tt)
+printed-by-log input = printed-for input (calls_of input) (cards-same (cards_in input) blank_session None refl) (cards-sound (cards_in input) None tt)
+
+-- a card more in the count is none in the sheet
+pub refused-skipped : RefusedSkipped
+unfolding counted
+refused-skipped s c k e = ap (λ (x : Session). sheet_on x.manager) (refused-keeps s c k e)

@@ -1,4 +1,4 @@
 -- Why the log says what the sheet's last row is.
-pub mod Told
+pub mod CardCalls
 pub mod Laws
 pub mod Examples

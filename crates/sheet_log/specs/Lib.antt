@@ -1,4 +1,4 @@
 -- What the log says of the shift sheet.
-pub mod Told
+pub mod CardCalls
 pub mod Claims
 pub mod Examples

@@ -6,7 +6,8 @@ use mathlib.Core.Bool.{Bool, true, false, cond, ◌&&◌}
 use mathlib.Core.List.{List, [], ◌∷◌, ◌++◌}
 use native.Mathlib.Omega.{arith}
 use lib.Dec.{eqb, leb, ltb}
-use lib.ListN.{length}
+use lib.ListN.{length, drop, replicate}
+use lib.Seq.{take_at}
 use borrow.Author.Tests.{eqb-true, ne_eqb, leb-true, lt-ltb, le-ltb}
 use Rattle.std.specs.List.{between}
 use Rattle.bitmap.specs.Bitmaps.{capacity, bitmap_where, is_one}
@@ -33,8 +34,8 @@ use Rattle.lease.proofs.Tests.{both, fst-of, snd-of}
 use Rattle.lease.proofs.RecordCheck.{rows_of, row-of}
 use Rattle.record_check.proofs.Laws.{fits as record-fits}
 use Rattle.sheets.specs.declared.SheetRow.{SheetRow}
-use Rattle.sheets.specs.Sheet.{grant_state, held_state, timer_of, left_on, peer_row, rows_below, peer_rows, total_row, row_columns, row_of, numbers_in, row_read, sheet_text}
-use Rattle.sheets.specs.Claims.{TotalsAreRows, HeldIsLeaseSet, GrantIsGrantSet, HasRoom, AllHaveRoom, Fits, WrittenIsRead, ReadIsWritten, SheetLength}
+use Rattle.sheets.specs.Sheet.{grant_state, held_state, timer_of, left_on, peer_row, rows_below, peer_rows, total_row, row_columns, row_of, numbers_in, row_read, sheet_text, printed}
+use Rattle.sheets.specs.Claims.{TotalsAreRows, HeldIsLeaseSet, GrantIsGrantSet, HasRoom, AllHaveRoom, Fits, WrittenIsRead, ReadIsWritten, SheetLength, PrintedIsText}
 use Rattle.sheets.proofs.Totals.{granted_rows, leased_rows}
 use Rattle.sheets.proofs.Text.{length-columns, length_row, peers_length, sheet_length}
 
@@ -289,3 +290,8 @@ sheet-length m v =
     let f = record-fits m v in
     let parts : length (sheet_text m) ≡ 27 * m.population = rw (sheet_length m, length_row (total_row m)) (peers_length m f.own) in
     (parts, omega (arith, parts, f.few))
+
+-- what stands before the rest is the text
+pub printed-is-text : PrintedIsText
+unfolding printed
+printed-is-text text = take_at text (drop (length text) (replicate 1728 0)) (length text) refl

@@ -1,11 +1,11 @@
 -- What is claimed of the shift sheet. Each claim is proved in proofs/Laws.antt under the same name in small letters. Statements only.
-use Rattle.std.specs.Prelude.{ℕ, ◌*◌, ◌≤◌, ◌≡◌, true, false, List, [], ◌∷◌, ◌++◌, length, Some, Ok}
+use Rattle.std.specs.Prelude.{ℕ, ◌*◌, ◌≤◌, ◌≡◌, true, false, List, [], ◌∷◌, ◌++◌, length, take, Some, Ok}
 use Rattle.bitmap.specs.Operations.{count_of}
 use Rattle.lease.specs.declared.Manager.{Manager}
 use Rattle.lease.specs.Calls.{is_quiet, grant_set, lease_set}
 use Rattle.lease.specs.RecordCheck.{record_valid}
 use Rattle.sheets.specs.declared.SheetRow.{SheetRow}
-use Rattle.sheets.specs.Sheet.{is_granted, is_leased, count_rows, peer_rows, total_row, sheet_rows, row_columns, row_read, sheet_text}
+use Rattle.sheets.specs.Sheet.{is_granted, is_leased, count_rows, peer_rows, total_row, sheet_rows, row_columns, row_read, sheet_text, printed}
 
 -- ---- the totals
 
@@ -50,3 +50,7 @@ ReadIsWritten = (line : List ℕ) (r : SheetRow) → row_read line ≡ Some r �
 -- A sheet has a row for each peer and one for the totals, 27 bytes each, and has room in the bytes that are printed.
 abbrev pub SheetLength : Type 0
 SheetLength = (m : Manager) → record_valid m ≡ true → (length (sheet_text m) ≡ 27 * m.population) × (length (sheet_text m) ≤ 1728)
+
+-- The bytes that are printed, as many as the length says, are the text.
+abbrev pub PrintedIsText : Type 0
+PrintedIsText = (text : List ℕ) → take (printed text).length (printed text).bytes ≡ text

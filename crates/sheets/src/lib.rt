@@ -114,7 +114,7 @@ fn total_row(checked: CheckedManager) -> SheetRow
     }
 }
 
-// ---- as bytes: each puts its text at the start of `out`, and answers how many bytes it is, as card_lines does
+// ---- as bytes
 
 // A row with its newline.
 #[tactic(auto, unfolding(crate::specs::Sheet::row_text, crate::specs::Sheet::row_columns))]
@@ -135,6 +135,7 @@ fn row_text(r: SheetRow) -> [u8; ROW]
     text
 }
 
+// Puts a row at the start of `out`, as the two below put theirs; each answers how many bytes it is, as in card_lines.
 #[tactic(auto, using(crate::proofs::Text::length_row))]
 fn put_row(out: &mut [u8], r: SheetRow) -> usize
     requires { 27 ≤ length out.old }
@@ -164,7 +165,7 @@ fn put_peers(out: &mut [u8], m: &Manager) -> usize
     written
 }
 
-// And the last one.
+// All rows: the peers', and the last one.
 #[tactic(auto, using(crate::proofs::Text::sheet_parts, crate::proofs::Text::sheet_length, crate::proofs::Text::peers_length, card_lines::proofs::Text::laid_behind))]
 fn put_sheet(out: &mut [u8], checked: CheckedManager) -> usize
     requires { 1728 ≤ length out.old }
@@ -197,7 +198,8 @@ fn empty_sheet() -> Sheet
     }
 }
 
-// The sheet of the session that cards left: empty without an accepted set-up. A record that no cards lead to is refused with 15.
+// The sheet of the session that cards left: empty without an accepted set-up. A record that fails the check is refused with 15; no
+// cards lead to one.
 #[tactic(auto, unfolding(crate::specs::Sheet::sheet_on))]
 pub fn sheet_of(session: Session) -> Result<Sheet, Refusal>
     ensures value { result ≡ Sheet·sheet_of session }

@@ -23,17 +23,22 @@ pub struct Sheet {
     peers: Vec<Row>,
 }
 
-// One side of every id, from its two tables: 1 guard, 2 promise, one more where it is being revoked.
-// The time left is 0 where the timer is not armed, since there the deadline is read as 0.
+// Enters a table's rows; a promise that is being revoked has the state one above. The time left is 0
+// where the timer is not armed, since there the deadline is read as 0.
+fn enter(sides: &mut [Side; 64], table: &str, state: u64, now: u64) -> Option<()> {
+    for (peer, revoking, which, at) in sample::entries(table)? {
+        let left = at.saturating_sub(now).div_ceil(MS);
+        let exploded = which == sample::EXPLODED;
+        sides[peer] = Side { state: state + u64::from(revoking), left, exploded };
+    }
+    Some(())
+}
+
+// One side of every id, from its two tables: 1 guard, 2 promise.
 fn sides(guards: &str, promises: &str, now: u64) -> Option<[Side; 64]> {
     let mut sides = [Side::default(); 64];
-    for (table, state) in [(guards, 1), (promises, 2)] {
-        for (peer, revoking, which, at) in sample::entries(table)? {
-            let left = at.saturating_sub(now).div_ceil(MS);
-            let exploded = which == sample::EXPLODED;
-            sides[peer] = Side { state: state + u64::from(revoking), left, exploded };
-        }
-    }
+    enter(&mut sides, guards, 1, now)?;
+    enter(&mut sides, promises, 2, now)?;
     Some(sides)
 }
 

@@ -1,5 +1,5 @@
--- What the cards of an input say to the manager (specs/Told) is what the session has come to: its record is that of the rules' run over the
--- calls told. Assumes nothing.
+-- What the cards of an input say to the manager (specs/CardCalls) is what the session has come to: its record is that of the rules' run
+-- over the calls. Assumes nothing.
 use Rattle.std.specs.Prelude.{Option, None, Some, Result, Ok, Err}
 use mathlib.Core.Path.{◌≡◌, refl, ap, sym, subst, ◌∙◌}
 use mathlib.Core.List.{List, [], ◌∷◌, ◌++◌}
@@ -23,7 +23,7 @@ use Rattle.card_events.specs.declared.CardRefusal.{CardRefusal}
 use Rattle.card_sessions.specs.declared.Session.{Session}
 use Rattle.card_sessions.specs.Sessions.{counted, with_manager, given_by, refused_card, set_up_answer, set_up_given, advance_answer, advance_given, notice_answer, notice_given, event_given, card_given}
 use Rattle.card_reader.specs.Reader.{session_after}
-use Rattle.sheet_log.specs.Told.{Told, set-up-told, with_call, card-told, cards-told, run-told}
+use Rattle.sheet_log.specs.CardCalls.{CardCalls, with_set_up, with_call, with_card, with_cards, run_of_cards}
 
 -- ---- a call more
 
@@ -32,9 +32,9 @@ run_from-more : (l : List Call) (r : Run) (c : Call) → run_from r (l ++ (c ∷
 run_from-more [] r c = refl
 run_from-more (d ∷ l) r c = run_from-more l (stepped r d (verdict r.manager d)) c
 
--- what is told with a call more is one step more
-pub told-more : (x : Told) (c : Call) → run-told (with_call x c) ≡ stepped (run-told x) c (verdict (run-told x).manager c)
-told-more x c = run_from-more x.calls _ c
+-- the run of the cards with a call more is one step more
+pub run-more : (x : CardCalls) (c : Call) → run_of_cards (with_call x c) ≡ stepped (run_of_cards x) c (verdict (run_of_cards x).manager c)
+run-more x c = run_from-more x.calls _ c
 
 -- with a typed call more the calls are typed
 typed-more : (l : List Call) (c : Call) → AllTyped l → Typed c → AllTyped (l ++ (c ∷ []))
@@ -43,10 +43,10 @@ typed-more (d ∷ l) c f k = (f.0, typed-more l c f.1 k)
 
 -- ---- the record
 
--- That of the rules' run over what was told.
-abbrev pub manager_of : Option Told → Option Manager
+-- That of the rules' run over the cards' calls.
+abbrev pub manager_of : Option CardCalls → Option Manager
 manager_of None = None
-manager_of (Some x) = Some (run-told x).manager
+manager_of (Some x) = Some (run_of_cards x).manager
 
 -- What a card's set-up gives.
 abbrev pub set_up_by : SetUpCall → Answered (Unit {0})
@@ -55,7 +55,7 @@ set_up_by u = setup_of u.me u.population u.expire_timeout u.heartbeat u.now
 module _ (s : Session) where
   -- a set-up, refused or done
   set-up-same : s.manager ≡ None → (u : SetUpCall) (o : Result (Unit {0}) Refusal)
-      → (set_up_answer s o (set_up_by u).manager).session.manager ≡ manager_of (set-up-told u o)
+      → (set_up_answer s o (set_up_by u).manager).session.manager ≡ manager_of (with_set_up u o)
   unfolding refused_card given_by with_manager
   set-up-same e u (Err k) = e
   set-up-same e u (Ok tt) = refl
@@ -74,48 +74,48 @@ module _ (s : Session) where
     notice-same num x (Err k) m = e
     notice-same num x (Ok a) m = refl
 
-  -- whatever a card says, the session has the record of what is then told
+  -- whatever a card says, the session has the record of the run with it
   event-same :
-      (x : Option Told) → s.manager ≡ manager_of x → (ev : Event)
-      → (event_given s (manager_of x) ev).session.manager ≡ manager_of (card-told x (Ok ev))
+      (x : Option CardCalls) → s.manager ≡ manager_of x → (ev : Event)
+      → (event_given s (manager_of x) ev).session.manager ≡ manager_of (with_card x (Ok ev))
   unfolding event_given set_up_given advance_given notice_given refused_card given_by
   event-same None e (E.SetUp u) = set-up-same e u (set_up_by u).outcome
   event-same None e (E.Advance to) = e
   event-same None e (E.Notice num n) = e
   event-same (Some x) e (E.SetUp u) = e
   event-same (Some x) e (E.Advance to) =
-      let a = advance_of (run-told x).manager to in
-      advance-same (run-told x) e to a.outcome a.manager ∙ ap (λ (r : Run). Some r.manager) (sym (told-more x (advance to)))
+      let a = advance_of (run_of_cards x).manager to in
+      advance-same (run_of_cards x) e to a.outcome a.manager ∙ ap (λ (r : Run). Some r.manager) (sym (run-more x (advance to)))
   event-same (Some x) e (E.Notice num n) =
-      let a = notice_of (run-told x).manager num n in
-      notice-same (run-told x) e num n a.outcome a.manager ∙ ap (λ (r : Run). Some r.manager) (sym (told-more x (notice num n)))
+      let a = notice_of (run_of_cards x).manager num n in
+      notice-same (run_of_cards x) e num n a.outcome a.manager ∙ ap (λ (r : Run). Some r.manager) (sym (run-more x (notice num n)))
 
 -- so too where it is not of the form or no card
-card-same : (s : Session) (x : Option Told) → s.manager ≡ manager_of x → (c : Result Event CardRefusal)
-    → (card_given s c).session.manager ≡ manager_of (card-told x c)
+card-same : (s : Session) (x : Option CardCalls) → s.manager ≡ manager_of x → (c : Result Event CardRefusal)
+    → (card_given s c).session.manager ≡ manager_of (with_card x c)
 unfolding card_given counted refused_card given_by
 card-same s x e (Err k) = e
 card-same s x e (Ok ev) =
-    subst (λ b. (event_given (counted s) b ev).session.manager ≡ manager_of (card-told x (Ok ev))) (sym e) (event-same (counted s) x e ev)
+    subst (λ b. (event_given (counted s) b ev).session.manager ≡ manager_of (with_card x (Ok ev))) (sym e) (event-same (counted s) x e ev)
 
 -- and after all cards
-pub cards-same : (cs : List (Result Event CardRefusal)) (s : Session) (x : Option Told) → s.manager ≡ manager_of x
-    → (session_after s cs).manager ≡ manager_of (cards-told x cs)
-unfolding session_after cards-told
+pub cards-same : (cs : List (Result Event CardRefusal)) (s : Session) (x : Option CardCalls) → s.manager ≡ manager_of x
+    → (session_after s cs).manager ≡ manager_of (with_cards x cs)
+unfolding session_after with_cards
 cards-same [] s x e = e
-cards-same (c ∷ cs) s x e = cards-same cs (card_given s c).session (card-told x c) (card-same s x e c)
+cards-same (c ∷ cs) s x e = cards-same cs (card_given s c).session (with_card x c) (card-same s x e c)
 
--- ---- what is told
+-- ---- the cards' calls
 
 -- The set-up was accepted, the calls are typed, and no call has started quiet time.
-pub record Sound (x : Told) : Type 0 where
+pub record Sound (x : CardCalls) : Type 0 where
   pub accepted : (set_up_by x.set_up).outcome ≡ Ok tt
   pub typed : AllTyped x.calls
-  pub no_quiet : (run-told x).journal.quiet ≡ never
+  pub no_quiet : (run_of_cards x).journal.quiet ≡ never
 
-abbrev pub SoundTold : Option Told → Type 0
-SoundTold None = Unit {0}
-SoundTold (Some x) = Sound x
+abbrev pub AllSound : Option CardCalls → Type 0
+AllSound None = Unit {0}
+AllSound (Some x) = Sound x
 
 -- an advance, refused or done, starts no quiet time
 advance_quiet : (r : Run) (to : Reading) (o : Result Advanced Refusal) (m : Manager)
@@ -129,37 +129,37 @@ notice_quiet : (r : Run) (num : LeaseNum) (x : LeaseNotice) (o : Result Lines Re
 notice_quiet r num x (Err k) m = refl
 notice_quiet r num x (Ok a) m = refl
 
--- such a call more leaves what is told sound
-sound-more : (x : Told) (c : Call) → Sound x → Typed c
-    → (stepped (run-told x) c (verdict (run-told x).manager c)).journal.quiet ≡ (run-told x).journal.quiet
+-- such a call more leaves them sound
+sound-more : (x : CardCalls) (c : Call) → Sound x → Typed c
+    → (stepped (run_of_cards x) c (verdict (run_of_cards x).manager c)).journal.quiet ≡ (run_of_cards x).journal.quiet
     → Sound (with_call x c)
 sound-more x c k f q = record {
   accepted = k.accepted;
   typed = typed-more x.calls c k.typed f;
-  no_quiet = ap (λ (r : Run). r.journal.quiet) (told-more x c) ∙ q ∙ k.no_quiet;
+  no_quiet = ap (λ (r : Run). r.journal.quiet) (run-more x c) ∙ q ∙ k.no_quiet;
 }
 
 -- and so does a set-up
-sound-set-up : (u : SetUpCall) (o : Result (Unit {0}) Refusal) → (set_up_by u).outcome ≡ o → SoundTold (set-up-told u o)
+sound-set-up : (u : SetUpCall) (o : Result (Unit {0}) Refusal) → (set_up_by u).outcome ≡ o → AllSound (with_set_up u o)
 sound-set-up u (Err k) e = tt
 sound-set-up u (Ok tt) e = record { accepted = e; typed = tt; no_quiet = refl }
 
 -- whatever a card says
-card-sound : (x : Option Told) → SoundTold x → (c : Result Event CardRefusal) → SoundTold (card-told x c)
+card-sound : (x : Option CardCalls) → AllSound x → (c : Result Event CardRefusal) → AllSound (with_card x c)
 card-sound x k (Err j) = k
 card-sound None k (Ok (E.SetUp u)) = sound-set-up u (set_up_by u).outcome refl
 card-sound None k (Ok (E.Advance to)) = tt
 card-sound None k (Ok (E.Notice num n)) = tt
 card-sound (Some x) k (Ok (E.SetUp u)) = k
 card-sound (Some x) k (Ok (E.Advance to)) =
-    let a = advance_of (run-told x).manager to in
-    sound-more x (advance to) k tt (advance_quiet (run-told x) to a.outcome a.manager)
+    let a = advance_of (run_of_cards x).manager to in
+    sound-more x (advance to) k tt (advance_quiet (run_of_cards x) to a.outcome a.manager)
 card-sound (Some x) k (Ok (E.Notice num n)) =
-    let a = notice_of (run-told x).manager num n in
-    sound-more x (notice num n) k tt (notice_quiet (run-told x) num n a.outcome a.manager)
+    let a = notice_of (run_of_cards x).manager num n in
+    sound-more x (notice num n) k tt (notice_quiet (run_of_cards x) num n a.outcome a.manager)
 
 -- and whatever all cards say
-pub cards-sound : (cs : List (Result Event CardRefusal)) (x : Option Told) → SoundTold x → SoundTold (cards-told x cs)
-unfolding cards-told
+pub cards-sound : (cs : List (Result Event CardRefusal)) (x : Option CardCalls) → AllSound x → AllSound (with_cards x cs)
+unfolding with_cards
 cards-sound [] x k = k
-cards-sound (c ∷ cs) x k = cards-sound cs (card-told x c) (card-sound x k c)
+cards-sound (c ∷ cs) x k = cards-sound cs (with_card x c) (card-sound x k c)
