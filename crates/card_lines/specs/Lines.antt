@@ -1,13 +1,12 @@
 -- Document 02, wish 1, output lines: code (2 columns), number (21), peer (4), first (21), second (21). What lines a card gives, and how a
 -- line is read back. Definitions only.
-use Rattle.std.specs.Prelude.{ℕ, Bool, false, cond, List, [], ◌∷◌, ◌++◌, eqb, leb, length, drop, Option, Some, None, Result, Ok, Err}
-use Rattle.std.specs.List.{between}
+use Rattle.std.specs.Prelude.{ℕ, Bool, false, cond, List, [], ◌∷◌, ◌++◌, leb, length, drop, Option, Some, None, Result, Ok, Err}
 use Rattle.lease.specs.declared.Line.{Line}
 use Rattle.lease.specs.declared.Lines.{Lines}
 use Rattle.lease.specs.declared.Lines.TheVariants as L
 use Rattle.lease.specs.declared.FiredTimer.{FiredTimer}
 use Rattle.lease.specs.Fired.{listed_in}
-use Rattle.columns.specs.Columns.{column, number_of}
+use Rattle.columns.specs.FiveColumns.{five_columns, five_read}
 use Rattle.host_lines.specs.declared.LineC.{LineC}
 use Rattle.host_lines.specs.Lines.{line_c, line_of}
 use Rattle.card_events.specs.declared.CardGiven.{CardGiven}
@@ -19,7 +18,7 @@ use Rattle.card_events.specs.Refusals.{card_refusal_number}
 
 -- A line, without its newline.
 unfoldable pub line_columns : LineC → List ℕ
-line_columns l = column 2 l.code ++ column 21 l.number ++ column 4 l.peer ++ column 21 l.first ++ column 21 l.second
+line_columns l = five_columns 2 21 4 21 21 l.code l.number l.peer l.first l.second
 
 -- And with it.
 unfoldable pub line_text : LineC → List ℕ
@@ -87,14 +86,6 @@ can_write l room = cond (leb 70 room) (line_fits l) false
 
 -- ---- reading a line back
 
--- The five numbers of its columns, a number in each.
-abbrev pub numbers_in : Option ℕ → Option ℕ → Option ℕ → Option ℕ → Option ℕ → Option LineC
-numbers_in (Some code) (Some num) (Some peer) (Some first) (Some second) = Some (line_c code num peer first second)
-numbers_in code num peer first second = None
-
 -- A line without its newline: 69 columns, a number in each field.
 unfoldable pub line_read : List ℕ → Option LineC
-line_read line =
-    cond (eqb (length line) 69)
-    (numbers_in (number_of (between 0 2 line)) (number_of (between 2 23 line)) (number_of (between 23 27 line)) (number_of (between 27 48 line)) (number_of (between 48 69 line)))
-    None
+line_read line = five_read line_c 2 21 4 21 21 line

@@ -2,3 +2,4 @@
 pub mod Text
 pub mod Laws
 pub mod Parts
+pub mod FiveColumns

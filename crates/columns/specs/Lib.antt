@@ -1,3 +1,4 @@
 -- Numbers in fixed columns, and what is claimed of them.
 pub mod Columns
 pub mod Claims
+pub mod FiveColumns

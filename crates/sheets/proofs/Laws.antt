@@ -1,6 +1,6 @@
 -- The claims of the shift sheet: its totals, the room in its columns, what is written is read, and its length. Assumes nothing.
 use Rattle.std.specs.Prelude.{Option, None, Some, Ok}
-use Prim.Native.Nat.{ℕ, zero, suc, ◌+◌, ◌*◌, ◌^◌, ◌≤◌, ◌<◌}
+use Prim.Native.Nat.{ℕ, zero, suc, ◌+◌, ◌*◌, ◌≤◌, ◌<◌}
 use mathlib.Core.Path.{◌≡◌, refl, sym, ap, ◌∙◌}
 use mathlib.Core.Bool.{Bool, true, false, cond, ◌&&◌}
 use mathlib.Core.List.{List, [], ◌∷◌, ◌++◌}
@@ -8,8 +8,7 @@ use native.Mathlib.Omega.{arith}
 use lib.Dec.{eqb, leb, ltb}
 use lib.ListN.{length, drop, replicate}
 use lib.Seq.{take_at}
-use borrow.Author.Tests.{eqb-true, ne_eqb, leb-true, lt-ltb, le-ltb}
-use Rattle.std.specs.List.{between}
+use borrow.Author.Tests.{ne_eqb, leb-true, lt-ltb, le-ltb}
 use Rattle.bitmap.specs.Bitmaps.{capacity, bitmap_where, is_one}
 use Rattle.bitmap.specs.Sets.{count_where}
 use Rattle.bitmap.specs.Operations.{bad_size, count_of}
@@ -20,9 +19,7 @@ use Rattle.timer.specs.declared.Reading.{Reading}
 use Rattle.timer.specs.declared.Timer.{Timer}
 use Rattle.timer.specs.declared.Timer.TheVariants.{Unarmed, Armed, Exploded}
 use Rattle.timer.specs.Timers.{ms_left, farthest}
-use Rattle.columns.specs.Columns.{places, column, max_number, number_of}
-use Rattle.columns.proofs.Laws.{written-is-read as column-read, part-written}
-use Rattle.columns.proofs.Parts.{between-whole, between-join}
+use Rattle.columns.proofs.FiveColumns.{five-written-is-read, five-read-is-written}
 use Rattle.lease.specs.declared.Peer.{Peer}
 use Rattle.lease.specs.declared.Manager.{Manager}
 use Rattle.lease.specs.Pass as P
@@ -34,10 +31,10 @@ use Rattle.lease.proofs.Tests.{both, fst-of, snd-of}
 use Rattle.lease.proofs.RecordCheck.{rows_of, row-of}
 use Rattle.record_check.proofs.Laws.{fits as record-fits}
 use Rattle.sheets.specs.declared.SheetRow.{SheetRow}
-use Rattle.sheets.specs.Sheet.{grant_state, held_state, timer_of, left_on, peer_row, rows_below, peer_rows, total_row, row_columns, row_of, numbers_in, row_read, sheet_text, printed}
+use Rattle.sheets.specs.Sheet.{grant_state, held_state, timer_of, left_on, peer_row, rows_below, peer_rows, total_row, row_columns, row_of, row_read, sheet_text, printed}
 use Rattle.sheets.specs.Claims.{TotalsAreRows, HeldIsLeaseSet, GrantIsGrantSet, HasRoom, AllHaveRoom, Fits, WrittenIsRead, ReadIsWritten, SheetLength, PrintedIsText}
 use Rattle.sheets.proofs.Totals.{granted_rows, leased_rows}
-use Rattle.sheets.proofs.Text.{length-columns, length_row, peers_length, sheet_length}
+use Rattle.sheets.proofs.Text.{length_row, peers_length, sheet_length}
 
 -- ---- the totals
 
@@ -187,100 +184,21 @@ room-total m v =
 pub fits : Fits
 fits m v = room-both (peer_rows m) (total_row m ∷ []) (room-below m v m.population (omega arith)) (room-total m v, tt)
 
--- ---- what is written is read
+-- ---- what is written is read, and what is read is what is written
 
--- the first four columns are the id's
-id-part : (r : SheetRow) → between 0 4 (row_columns r) ≡ column 4 r.id
-unfolding row_columns column places
-id-part r = refl
-
--- the next three the grant state's
-grant-part : (r : SheetRow) → between 4 7 (row_columns r) ≡ column 3 r.grant
-unfolding row_columns column places
-grant-part r = refl
-
--- eight for the ms left on it
-grant_left-part : (r : SheetRow) → between 7 15 (row_columns r) ≡ column 8 r.grant_left
-unfolding row_columns column places
-grant_left-part r = refl
-
--- three for the held state
-held-part : (r : SheetRow) → between 15 18 (row_columns r) ≡ column 3 r.held
-unfolding row_columns column places
-held-part r = refl
-
--- and eight for the ms left on that
-held_left-part : (r : SheetRow) → between 18 26 (row_columns r) ≡ column 8 r.held_left
-unfolding row_columns column places
-held_left-part r = refl
-
--- bytes that are a number's column are read as that number
-column-says : (bs : List ℕ) (w n : ℕ) → bs ≡ column (suc w) n → n < 10 ^ suc w → n ≤ max_number → number_of bs ≡ Some n
-column-says bs w n e h l = rw e (column-read w n h l)
-
--- five numbers that are read make the row
-fields-say :
-    (a b d f g : Option ℕ) (r : SheetRow)
-    → a ≡ Some r.id → b ≡ Some r.grant → d ≡ Some r.grant_left → f ≡ Some r.held → g ≡ Some r.held_left → numbers_in a b d f g ≡ Some r
-fields-say a b d f g r s₁ s₂ s₃ s₄ s₅ = rw (s₁, s₂, s₃, s₄, s₅) refl
-
--- so a row with room is read back from its columns
+-- a row with room is read back from its columns
 pub written-is-read : WrittenIsRead
-unfolding row_read
+unfolding row_read row_columns
 written-is-read r h =
-    rw (length-columns r)
-    (fields-say _ _ _ _ _ r
-    (column-says _ 3 r.id (id-part r) (omega arith) (omega arith))
-    (column-says _ 2 r.grant (grant-part r) (omega arith) (omega arith))
-    (column-says _ 7 r.grant_left (grant_left-part r) (omega arith) (omega arith))
-    (column-says _ 2 r.held (held-part r) (omega arith) (omega arith))
-    (column-says _ 7 r.held_left (held_left-part r) (omega arith) (omega arith)))
+    five-written-is-read SheetRow row_of 3 2 7 2 7 r.id r.grant r.grant_left r.held r.held_left
+    (omega arith, omega arith) (omega arith, omega arith) (omega arith, omega arith) (omega arith, omega arith) (omega arith, omega arith)
 
--- ---- what is read is what is written
-
--- a row that is read has its length
-of_length : (x : Bool) (found : Option SheetRow) (r : SheetRow) → cond x found None ≡ Some r → (x ≡ true) × (found ≡ Some r)
-of_length true found r e = (refl, e)
-of_length false found r e = absurd cc
-
--- Five numbers, each of which is read, are that row's.
-abbrev AllSay : Option ℕ → Option ℕ → Option ℕ → Option ℕ → Option ℕ → SheetRow → Type 0
-AllSay a b d f g r = (a ≡ Some r.id) × (b ≡ Some r.grant) × (d ≡ Some r.grant_left) × (f ≡ Some r.held) × (g ≡ Some r.held_left)
-
-all-say : (a b d f g : Option ℕ) (r : SheetRow) → numbers_in a b d f g ≡ Some r → AllSay a b d f g r
-all-say (Some a) (Some b) (Some d) (Some f) (Some g) r e = let same : row_of a b d f g ≡ r = cc in rw (← same) (refl, refl, refl, refl, refl)
-all-say None b d f g r e = absurd cc
-all-say (Some a) None d f g r e = absurd cc
-all-say (Some a) (Some b) None f g r e = absurd cc
-all-say (Some a) (Some b) (Some d) None g r e = absurd cc
-all-say (Some a) (Some b) (Some d) (Some f) None r e = absurd cc
-
--- the parts make the row
-parts-joined : (line : List ℕ) → length line ≡ 26 → between 0 4 line ++ between 4 7 line ++ between 7 15 line ++ between 15 18 line ++ between 18 26 line ≡ line
-parts-joined line n =
-    rw (
-      between-join 0 4 7 line (omega arith) (omega arith) (omega arith),
-      between-join 0 7 15 line (omega arith) (omega arith) (omega arith),
-      between-join 0 15 18 line (omega arith) (omega arith) (omega arith),
-      between-join 0 18 26 line (omega arith) (omega arith) (omega arith),
-    )
-    (rw n at (between-whole line))
-
--- so a row that is read is what its numbers are written as
+-- and a row that is read is what its numbers are written as
 pub read-is-written : ReadIsWritten
 unfolding row_read row_columns
 read-is-written line r e =
-    let a = of_length (eqb (length line) 26) _ r e in
-    let n : length line ≡ 26 = eqb-true (length line) 26 a.0 in
-    let say = all-say _ _ _ _ _ r a.1 in
-    rw (
-      part-written 0 4 r.id line (omega arith) say.0,
-      part-written 4 3 r.grant line (omega arith) say.1,
-      part-written 7 8 r.grant_left line (omega arith) say.2,
-      part-written 15 3 r.held line (omega arith) say.3,
-      part-written 18 8 r.held_left line (omega arith) say.4,
-    )
-    (parts-joined line n)
+    let five = five-read-is-written SheetRow row_of 4 3 8 3 8 line r e in
+    rw (← five.made) five.columns
 
 -- ---- the length
 

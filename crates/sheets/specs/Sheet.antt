@@ -1,6 +1,5 @@
 -- Document 02, wish 4, the shift sheet: its rows, of the rules' record, and how they are printed. Definitions only.
 use Rattle.std.specs.Prelude.{ℕ, zero, suc, ◌+◌, Bool, true, false, cond, List, [], ◌∷◌, ◌++◌, length, replicate, eqb, ltb, Option, None, Some, Result, Ok, Err}
-use Rattle.std.specs.List.{between}
 use Rattle.bitmap.specs.Sets.{one}
 use Rattle.timer.specs.declared.Reading.{Reading}
 use Rattle.timer.specs.declared.Timer.{Timer}
@@ -11,7 +10,7 @@ use Rattle.lease.specs.declared.Refusal.{Refusal}
 use Rattle.lease.specs.Rows.{row_at, promise_timer}
 use Rattle.lease.specs.RecordCheck.{record_valid}
 use Rattle.lease.specs.Refusals.{judged}
-use Rattle.columns.specs.Columns.{column, number_of}
+use Rattle.columns.specs.FiveColumns.{five_columns, five_read}
 use Rattle.card_lines.specs.Lines.{laid}
 use Rattle.card_sessions.specs.declared.Session.{Session}
 use Rattle.sheets.specs.declared.SheetRow.{SheetRow}
@@ -88,7 +87,7 @@ sheet_rows m = peer_rows m ++ (total_row m ∷ [])
 
 -- id (4 columns), grant state (3), grant ms left (8), held state (3), held ms left (8).
 unfoldable pub row_columns : SheetRow → List ℕ
-row_columns r = column 4 r.id ++ column 3 r.grant ++ column 8 r.grant_left ++ column 3 r.held ++ column 8 r.held_left
+row_columns r = five_columns 4 3 8 3 8 r.id r.grant r.grant_left r.held r.held_left
 
 -- With a newline.
 unfoldable pub row_text : SheetRow → List ℕ
@@ -104,15 +103,8 @@ sheet_text m = rows_text (sheet_rows m)
 -- ---- reading a row back
 
 -- A row without its newline, read back: a number in each of its columns.
-abbrev pub numbers_in : Option ℕ → Option ℕ → Option ℕ → Option ℕ → Option ℕ → Option SheetRow
-numbers_in (Some id) (Some grant) (Some grant_left) (Some held) (Some held_left) = Some (row_of id grant grant_left held held_left)
-numbers_in id grant grant_left held held_left = None
-
 unfoldable pub row_read : List ℕ → Option SheetRow
-row_read line =
-    cond (eqb (length line) 26)
-    (numbers_in (number_of (between 0 4 line)) (number_of (between 4 7 line)) (number_of (between 7 15 line)) (number_of (between 15 18 line)) (number_of (between 18 26 line)))
-    None
+row_read line = five_read row_of 4 3 8 3 8 line
 
 -- ---- what the call answers
 
