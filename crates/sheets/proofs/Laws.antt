@@ -32,16 +32,16 @@ use Rattle.lease.proofs.RecordCheck.{rows_of, row-of}
 use Rattle.record_check.proofs.Laws.{fits as record-fits}
 use Rattle.sheets.specs.declared.SheetRow.{SheetRow}
 use Rattle.sheets.specs.Sheet.{grant_state, held_state, timer_of, left_on, peer_row, rows_below, peer_rows, total_row, row_columns, row_of, row_read, sheet_text, printed}
-use Rattle.sheets.specs.Claims.{TotalsAreRows, HeldIsLeaseSet, GrantIsGrantSet, HasRoom, AllHaveRoom, Fits, WrittenIsRead, ReadIsWritten, SheetLength, PrintedIsText}
+use Rattle.sheets.specs.Claims.{TotalsAreTables, HeldIsLeaseSet, GrantIsGrantSet, HasRoom, AllHaveRoom, Fits, WrittenIsRead, ReadIsWritten, SheetLength, PrintedIsText}
 use Rattle.sheets.proofs.Totals.{granted_rows, leased_rows}
 use Rattle.sheets.proofs.Text.{length_row, peers_length, sheet_length}
 
 -- ---- the totals
 
--- the totals are the counts of the rows, by their definition
-pub totals-are-rows : TotalsAreRows
+-- the counts of the rows are those of the tables
+pub totals-are-tables : TotalsAreTables
 unfolding total_row
-totals-are-rows m = (refl, refl, refl)
+totals-are-tables m = (granted_rows m, leased_rows m)
 
 -- a size of 1 to 64 is not refused
 good-size : (n : ℕ) → 0 < n → n ≤ capacity → bad_size n ≡ false

@@ -1,21 +1,20 @@
 -- What is claimed of the shift sheet. Each claim is proved in proofs/Laws.antt under the same name in small letters. Statements only.
-use Rattle.std.specs.Prelude.{ℕ, ◌*◌, ◌≤◌, ◌≡◌, true, false, List, [], ◌∷◌, ◌++◌, length, take, Some, Ok}
+use Rattle.std.specs.Prelude.{ℕ, ◌*◌, ◌≤◌, ◌≡◌, true, false, List, [], ◌∷◌, length, take, Some, Ok}
 use Rattle.bitmap.specs.Operations.{count_of}
 use Rattle.lease.specs.declared.Manager.{Manager}
+use Rattle.lease.specs.Pass as P
+use Rattle.lease.specs.Notices.{pass_on}
 use Rattle.lease.specs.Calls.{is_quiet, grant_set, lease_set}
 use Rattle.lease.specs.RecordCheck.{record_valid}
 use Rattle.sheets.specs.declared.SheetRow.{SheetRow}
-use Rattle.sheets.specs.Sheet.{is_granted, is_leased, count_rows, peer_rows, total_row, sheet_rows, row_columns, row_read, sheet_text, printed}
+use Rattle.sheets.specs.Sheet.{total_row, sheet_rows, row_columns, row_read, sheet_text, printed}
 
 -- ---- the totals
 
--- They equal the rows: grant states 2 and 3, and active held promises.
-abbrev pub TotalsAreRows : Type 0
-TotalsAreRows =
-    (m : Manager)
-    → (sheet_rows m ≡ peer_rows m ++ (total_row m ∷ []))
-    × ((total_row m).grant ≡ count_rows is_granted (peer_rows m))
-    × ((total_row m).held ≡ count_rows is_leased (peer_rows m))
+-- They are counts of the rows by their definition. The tables say the same: how many promises are sent, and how many that are held are
+-- active.
+abbrev pub TotalsAreTables : Type 0
+TotalsAreTables = (m : Manager) → ((total_row m).grant ≡ (pass_on m P.Granted).count) × ((total_row m).held ≡ (pass_on m (P.Leased m.now)).count)
 
 -- The second is the size of the lease set, in quiet time too.
 abbrev pub HeldIsLeaseSet : Type 0
