@@ -1,2 +1,2 @@
-# visits: a higher number clears the marks
-/^pub fn higher_number_row/,/^}/s/in_none(none_held(none_sent(row)))/in_none(Peer { refresh_mark: false, ..none_held(none_sent(row)) })/
+# clearing: a higher number clears the marks
+s/\*row = cleared_row(\*row);/*row = Peer { refresh_mark: false, ..cleared_row(*row) };/

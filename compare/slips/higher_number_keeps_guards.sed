@@ -1,2 +1,2 @@
-# visits: a higher number leaves the sent guards
-/^pub fn higher_number_row/,/^}/s/in_none(none_held(none_sent(row)))/in_none(Peer { guard_sent: row.guard_sent, ..none_held(none_sent(row)) })/
+# clearing: a higher number leaves the sent guards
+s/\*row = cleared_row(\*row);/*row = Peer { guard_sent: row.guard_sent, ..cleared_row(*row) };/

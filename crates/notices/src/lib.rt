@@ -6,13 +6,12 @@ ghost use Rattle.std.specs.Prelude.{◌≡◌};
 ghost use Rattle.lease.specs.Notices.{handle_notice, raised_to, accepted_of};
 ghost use Rattle.notices.specs.Fits.{PeerBelow};
 
-use lease::{Accepted, Acted, LeaseNotice, LeaseNum, Manager, Passed, PeerNotice};
+use clearing::clear_below;
+use lease::{Accepted, Acted, LeaseNotice, LeaseNum, Manager, PeerNotice};
 use lines::{number_actions, reply_outdated};
-use passes::pass_over;
 use peer_notices::on_peer;
 use record_check::CheckedManager;
 use set_notices::{handle_clear_held, handle_do_revoke, handle_new_grants};
-use visits::higher_number_row;
 
 // A notice under the active number.
 #[tactic(auto, unfolding(lease::specs::Notices::handle_notice))]
@@ -30,13 +29,14 @@ fn handle_notice(checked: CheckedManager, notice: LeaseNotice) -> Acted
     }
 }
 
-// All four tables emptied, and the number active.
-#[tactic(auto, unfolding(lease::specs::Notices::raised_to))]
+// All four tables emptied in one pass, and the number active.
+#[tactic(auto, using(clearing::proofs::Laws::only_rules), unfolding(lease::specs::Notices::raised_to))]
 fn raise(checked: CheckedManager, num: LeaseNum) -> CheckedManager
     ensures { result.manager ≡ raised_to checked.manager num }
 {
     let m = checked.manager;
-    let Passed { peers, .. } = pass_over(&m, |_, row| higher_number_row(row));
+    let mut peers = m.peers;
+    clear_below(&mut peers, m.population);
     let manager = Manager {
         active_num: num,
         peers,

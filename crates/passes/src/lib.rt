@@ -1,4 +1,5 @@
-// The one pass over the ids: any rule about many peers, taken from row to row.
+// The pass over the ids that any rule about many peers is taken through, from row to row; what a higher number asks for has a
+// loop of its own (clearing).
 #![tactic(auto)]
 
 ghost use Rattle.std.specs.Prelude.{◌≡◌, ◌≤◌, ◌<◌, ℕ};

@@ -69,7 +69,6 @@ pub fn is_valid_record(m: Manager) -> bool
 }
 
 // The record, where the check passes it; else refusal 15.
-#[tactic(auto, using(crate::proofs::Laws::fits))]
 pub fn check_record(m: Manager) -> Result<CheckedManager, Refusal>
     ensures passed { IfOk result (λ checked. (checked.manager ≡ m) × (record_valid m ≡ true)) }
     ensures refused { IfErr result (λ refusal. (refusal ≡ InvalidRecord) × (record_valid m ≡ false)) }

@@ -4,10 +4,10 @@
 #![tactic(auto)]
 
 ghost use Rattle.std.specs.Prelude.{◌≡◌};
-ghost use Rattle.lease.specs.Passes.{new_grants_row, do_revoke_row, clear_held_row, higher_number_row, granted_row};
+ghost use Rattle.lease.specs.Passes.{new_grants_row, do_revoke_row, clear_held_row, granted_row};
 
 use lease::{Peer, Visit};
-use rows::{in_first, in_none, none_held, none_sent};
+use rows::{in_first, in_none, none_held};
 use timer::Timer;
 
 // NewGrants: a named peer without a promise sent gets a fresh sent guard, unarmed.
@@ -44,13 +44,6 @@ pub fn clear_held_row(row: Peer) -> Visit
     ensures { result ≡ clear_held_row row }
 {
     in_none(none_held(row))
-}
-
-// A higher number: all four tables emptied; the mark stays.
-pub fn higher_number_row(row: Peer) -> Visit
-    ensures { result ≡ higher_number_row row }
-{
-    in_none(none_held(none_sent(row)))
 }
 
 // `grant_set` outside quiet time: whether the peer has a promise sent.
