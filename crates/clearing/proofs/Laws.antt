@@ -1,4 +1,5 @@
--- The claims of the pass that a higher number asks for: the rules' pass clears below k, and nothing else is so. Assumes nothing.
+-- The claims of the pass that a higher number asks for: the rules' pass clears below k, no other rows
+-- are cleared so, and a raised record has no entry left. Assumes nothing.
 use Prim.Native.Nat.{ℕ, ◌<◌, ◌≤◌}
 use mathlib.Core.Path.{◌≡◌, refl, sym, ap, subst, ◌∙◌}
 use mathlib.Core.Bool.{Bool, true, false}
@@ -16,12 +17,12 @@ use Rattle.lease.specs.Pass as P
 use Rattle.lease.specs.Tables.{below}
 use Rattle.lease.specs.Rows.{row_at, empty_row}
 use Rattle.lease.specs.Passes.{higher_number_row, row_after, pass_over}
-use Rattle.lease.specs.Notices.{raised_to}
+use Rattle.lease.specs.Notices.{with_num, raised_to}
 use Rattle.lease.proofs.Tables.{length-below, below-done, below_rest}
 use Rattle.lease.proofs.RecordCheck.{few-of}
 use Rattle.record_check.proofs.Laws.{fits, rest-empty}
 use Rattle.clearing.specs.Clearing.{ClearedBelow}
-use Rattle.clearing.specs.Claims.{SaysAll, RulesClear, OnlyRules, AllCleared}
+use Rattle.clearing.specs.Claims.{SaysAll, RulesClear, OnlyRules, Raised, AllCleared}
 
 -- the row that the rule leaves
 abbrev cleared : Peer → Peer
@@ -61,7 +62,7 @@ module _ (own k : ℕ) (before : List Peer) (bare : row_at before own ≡ empty_
         guards_sent = λ i h. ap (λ (r : Peer). r.guard_sent) (done i h);
         guards_held = λ i h. ap (λ (r : Peer). r.guard_held) (done i h);
         marks = λ i. go i (ltb i k) refl;
-        rest = kept;
+        rest = λ i h. kept i (omega (arith, h));
         as_many = length-below k (row_after P.HigherNumber own) before;
       }
     where
@@ -77,7 +78,9 @@ row_of g p h q mark = record { guard_sent = g; promise_sent = p; guard_held = h;
 below-k : {k : ℕ} {before a : List Peer} → ClearedBelow k before a → (i : ℕ) → i < k → row_at a i ≡ cleared (row_at before i)
 below-k {k} {before} {a} c i h =
     let r = row_at a i in
-    let e : row_of r.guard_sent r.promise_sent r.guard_held r.promise_held r.refresh_mark ≡ row_of None None None None (row_at before i).refresh_mark = rw (c.guards_sent i h, c.promises_sent i h, c.guards_held i h, c.promises_held i h, c.marks i) refl in
+    let mark = (row_at before i).refresh_mark in
+    let e : row_of r.guard_sent r.promise_sent r.guard_held r.promise_held r.refresh_mark ≡ row_of None None None None mark =
+    rw (c.guards_sent i h, c.promises_sent i h, c.guards_held i h, c.promises_held i h, c.marks i) refl in
     e
 
 pub says_all : SaysAll
@@ -85,7 +88,7 @@ says_all k before a b c d = ext_get_or empty_row a b (c.as_many ∙ sym d.as_man
   where
     go : (i : ℕ) (x : Bool) → ltb i k ≡ x → row_at a i ≡ row_at b i
     go i true e = let l = ltb-true i k e in below-k c i l ∙ sym (below-k d i l)
-    go i false e = let l = ltb-false i k e in c.rest i l ∙ sym (d.rest i l)
+    go i false e = let l = ltb-false i k e in c.rest i (omega (arith, l)) ∙ sym (d.rest i (omega (arith, l)))
 
 pub rules_clear : RulesClear
 unfolding pass_over
@@ -93,6 +96,10 @@ rules_clear own k before bare = clears own k before bare
 
 pub only_rules : OnlyRules
 only_rules own k before after bare c = says_all k before after _ c (rules_clear own k before bare)
+
+pub raised : Raised
+unfolding raised_to
+raised m num after bare c = ap (with_num m num) (only_rules m.me m.population m.peers after bare c)
 
 pub all_cleared : AllCleared
 unfolding raised_to

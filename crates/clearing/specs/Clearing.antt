@@ -13,6 +13,7 @@ pub record ClearedBelow (k : ℕ) (before after : List Peer) : Type 0 where
   pub guards_held : (i : ℕ) → i < k → (row_at after i).guard_held ≡ None
   -- marks outlive the number;
   pub marks : (i : ℕ) → (row_at after i).refresh_mark ≡ (row_at before i).refresh_mark
-  -- from k on all is as before.
+  -- from k on all is as before,
   pub rest : (i : ℕ) → k ≤ i → row_at after i ≡ row_at before i
+  -- and there are as many rows.
   pub as_many : length after ≡ length before

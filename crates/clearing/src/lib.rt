@@ -1,5 +1,6 @@
 // Document 02, wish 5: on a higher number one pass over the ids clears promises sent and held together, and the guards
-// with them. The Rust goes over the ids once for each of its two promise tables, behind its guard tables.
+// with them. The Rust goes over the ids once for each of its two promise tables, after it has
+// emptied its guard tables.
 #![tactic(auto)]
 
 ghost use Rattle.std.specs.Prelude.{◌≡◌, ◌≤◌};

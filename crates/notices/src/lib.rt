@@ -30,7 +30,7 @@ fn handle_notice(checked: CheckedManager, notice: LeaseNotice) -> Acted
 }
 
 // All four tables emptied in one pass, and the number active.
-#[tactic(auto, using(clearing::proofs::Laws::only_rules), unfolding(lease::specs::Notices::raised_to))]
+#[tactic(auto, using(clearing::proofs::Laws::raised))]
 fn raise(checked: CheckedManager, num: LeaseNum) -> CheckedManager
     ensures { result.manager ≡ raised_to checked.manager num }
 {

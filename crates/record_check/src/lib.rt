@@ -16,7 +16,7 @@ use limits::{is_valid_own, is_valid_population, is_valid_reading, is_valid_timeo
 use row_check::is_valid_at;
 use timer_check::is_valid_deadline;
 
-// A record that the check passed, so that its numbers are within set-up's limits.
+// A record that the check passed, so that its numbers are within set-up's limits, and the own id's row is empty.
 #[derive(Clone, Copy)]
 pub struct CheckedManager {
     pub manager: Manager,

@@ -1,5 +1,5 @@
-// The rules about many peers that do not look at the clock, each on one row: what a pass makes of the
-// row, and whether its id is in the pass's sets. Every contract says that the result equals a definition of lease/specs/Passes,
+// The rules about many peers that do not look at the clock, but a higher number's (crate clearing), each on one row: what a
+// pass makes of the row, and whether its id is in the pass's sets. Every contract says that the result equals a definition of lease/specs/Passes,
 // whose `named` (whether the call's set has the id) is a parameter here too: a caller that asked first would say half the rule.
 #![tactic(auto)]
 
