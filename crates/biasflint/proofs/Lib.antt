@@ -1,2 +1,5 @@
--- The machine values of what `biasflint_call` takes and gives.
-pub mod CallKit
+-- The claims of the calls, one call on the flat record of a manager, and lists of cards.
+pub mod CallLaws
+pub mod OneCall
+pub mod CardHistory
+pub mod NumberLaws

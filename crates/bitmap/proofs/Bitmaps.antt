@@ -1,27 +1,19 @@
 -- Bitmaps that a test makes, and the answers of the calls. Assumes nothing.
 use Prim.Native.Nat.{ℕ, ◌≤◌, ◌<◌, ◌^◌}
 use mathlib.Core.Path.{◌≡◌, refl, sym, ap, ◌∙◌}
-use mathlib.Core.Bool.{Bool, true, false, not, true≢false, ◌&&◌, ◌||◌}
+use mathlib.Core.Bool.{Bool, true, false, not, true≢false, ◌&&◌}
 use native.Mathlib.Omega.{arith}
 use lib.Dec.{eqb, leb, ltb}
-use borrow.Author.Tests.{leb-true, ltb-true, ltb-false, lt-ltb, le-ltb}
+use borrow.Author.Tests.{eqb-true, eq-eqb, leb-true, ltb-true, ltb-false, lt-ltb, le-ltb}
 use Rattle.bitmap.specs.declared.Bitmap.{Bitmap}
-use Rattle.bitmap.specs.Sets.{member, ids_where, count_where}
+use Rattle.bitmap.specs.Sets.{member, count_where}
 use Rattle.bitmap.specs.Bitmaps.{capacity, number, bitmap_of, bitmap_where, is_one}
-use Rattle.bitmap.specs.Operations.{bad_size, is_missing, in_range}
-use Rattle.bitmap.proofs.Laws.{member-beyond, member_below, ids_where-same, ids_where-member, ids_where-empty, count_where-none, empty-count}
-
--- a size that is not refused has room
-pub size-le : (n : ℕ) {bad : Bool} → bad ≡ bad_size n → bad ≡ false → n ≤ capacity
-unfolding bad_size
-size-le n e f = go (eqb n 0) (sym e ∙ f)
-  where
-    go : (x : Bool) → (x || ltb capacity n) ≡ false → n ≤ capacity
-    go true e = absurd (true≢false e)
-    go false e = ltb-false capacity n e
-
-pub number-where : (size : ℕ) (p : ℕ → Bool) → number (bitmap_where size p) ≡ ids_where p size
-number-where size p = refl
+use Rattle.std.specs.Prelude.{◌↔◌, Result, Ok}
+use Rattle.bitmap.specs.declared.BitmapError.{BitmapError}
+use Rattle.bitmap.specs.Operations.{is_missing, in_range}
+use Rattle.bitmap.specs.Claims.{NoOneAbove, OnesAreTaken, MadeOfOnes, OnesAndZeros, SupersetHasAll, NoRange}
+use Rattle.bitmap.proofs.SetsLemmas.{ids_where-lt}
+use Rattle.bitmap.proofs.SetsLemmas.{member-beyond, member_below, ids_where-same, ids_where-member, ids_where-empty, count_where-none, empty-count, count_where-not}
 
 -- the ones of a bitmap that a test makes: below the size, what the test says
 pub is_one-below : (size : ℕ) (p : ℕ → Bool) (i : ℕ) → i < size → is_one (bitmap_where size p) i ≡ p i
@@ -39,20 +31,32 @@ is_one_past b i l h = rw (member-beyond (number b) capacity i l h) (none (ltb i 
     none true = refl
     none false = refl
 
--- a bitmap with no ones at or above its size is what its ones make
-pub of-its-ones : (b : Bitmap) → number b < 2 ^ b.size → bitmap_where b.size (is_one b) ≡ b
-of-its-ones b h = ap (bitmap_of b.size) (ids_where-same (is_one b) (member (number b)) b.size (λ i l. rw (lt-ltb i b.size l)) ∙ ids_where-member (number b) b.size h)
+-- ---- the claims of specs/Claims.antt on sets
+pub no-one-above : NoOneAbove
+no-one-above size p = ids_where-lt p size
 
--- a range that is empty or reversed makes the empty set
-pub range-empty : (size start end : ℕ) → end ≤ start → bitmap_where size (in_range start end) ≡ bitmap_of size 0
-range-empty size start end h = ap (bitmap_of size) (ids_where-empty (in_range start end) size (λ i l. go i (leb start i) refl))
+pub ones-are-taken : OnesAreTaken
+ones-are-taken size p i = go (ltb i size) refl
+  where
+    go : (x : Bool) → ltb i size ≡ x → is_one (bitmap_where size p) i ≡ (x && p i)
+    go true e = is_one-below size p i (ltb-true i size e)
+    go false e = is_one-above (bitmap_where size p) i (ltb-false i size e)
+
+pub made-of-ones : MadeOfOnes
+made-of-ones b h = ap (bitmap_of b.size) (ids_where-same (is_one b) (member (number b)) b.size (λ i l. rw (lt-ltb i b.size l)) ∙ ids_where-member (number b) b.size h)
+
+pub ones-and-zeros : OnesAndZeros
+ones-and-zeros b = count_where-not (is_one b) b.size
+
+pub no-range : NoRange
+no-range size start end h = ap (bitmap_of size) (ids_where-empty (in_range start end) size (λ i l. go i (leb start i) refl))
   where
     go : (i : ℕ) (x : Bool) → leb start i ≡ x → (x && ltb i end) ≡ false
     go i true e = let l = leb-true start i e in le-ltb i end (omega arith)
     go i false e = refl
 
 -- nothing missing: every one of the other set is a one of b
-pub superset-all : (b other : Bitmap) → count_where (is_missing b other) other.size ≡ 0 → (i : ℕ) → is_one other i ≡ true → is_one b i ≡ true
+superset-all : (b other : Bitmap) → count_where (is_missing b other) other.size ≡ 0 → (i : ℕ) → is_one other i ≡ true → is_one b i ≡ true
 superset-all b other e i on = go (ltb i other.size) refl
   where
     held : (x y : Bool) → x ≡ true → (x && not y) ≡ false → y ≡ true
@@ -65,9 +69,16 @@ superset-all b other e i on = go (ltb i other.size) refl
     go false l = absurd (true≢false (sym on ∙ is_one-above other i (ltb-false i other.size l)))
 
 -- and the other way round
-pub all-superset : (b other : Bitmap) → ((i : ℕ) → is_one other i ≡ true → is_one b i ≡ true) → count_where (is_missing b other) other.size ≡ 0
+all-superset : (b other : Bitmap) → ((i : ℕ) → is_one other i ≡ true → is_one b i ≡ true) → count_where (is_missing b other) other.size ≡ 0
 all-superset b other e = empty-count (is_missing b other) other.size (ids_where-empty (is_missing b other) other.size (λ i h. go i (is_one other i) refl))
   where
     go : (i : ℕ) (x : Bool) → is_one other i ≡ x → (x && not (is_one b i)) ≡ false
     go i true on = rw (e i on)
     go i false off = refl
+
+pub superset-has-all : SupersetHasAll
+superset-has-all b other s t = rw (s, t) (go (eqb (count_where (is_missing b other) other.size) 0) refl)
+  where
+    go : (x : Bool) → eqb (count_where (is_missing b other) other.size) 0 ≡ x → let r : Result Bool BitmapError = Ok x in (r ≡ Ok true) ↔ ((i : ℕ) → is_one other i ≡ true → is_one b i ≡ true)
+    go true e = (λ h. superset-all b other (eqb-true (count_where (is_missing b other) other.size) 0 e), λ h. refl)
+    go false e = (λ h. absurd (cc h), λ h. absurd (true≢false (sym (eq-eqb (count_where (is_missing b other) other.size) 0 (all-superset b other h)) ∙ e)))

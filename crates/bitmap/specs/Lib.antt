@@ -1,4 +1,8 @@
--- Sets of ids as numbers, bitmaps over them, and what each call of module 1 answers.
+-- Sets of ids as numbers, bitmaps over them, what each call answers and by which number it refuses, and what is claimed of all that.
 pub mod Sets
 pub mod Bitmaps
 pub mod Operations
+pub mod Numbers
+pub mod Tests
+pub mod Claims
+pub mod Examples

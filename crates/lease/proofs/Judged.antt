@@ -1,4 +1,4 @@
--- What holds of every call on a record: it is refused, or the record and its arguments passed and it is done. Assumes nothing.
+-- What holds of every call on a record: it is refused, or the record and its arguments passed and it is done.
 use Rattle.std.specs.Prelude.{Result, Ok, Err}
 use mathlib.Core.Path.{◌≡◌, refl}
 use mathlib.Core.Bool.{Bool, true, false, cond}

@@ -1,4 +1,4 @@
--- The claims of specs/LeftClaims.antt. Assumes nothing.
+-- The claims of specs/LeftClaims.antt.
 use Rattle.std.specs.Prelude.{Option, None, Some, Result, Ok, Err}
 use Prim.Native.Nat.{ℕ}
 use mathlib.Core.Path.{◌≡◌, refl, sym, ap, ◌∙◌}
@@ -12,7 +12,7 @@ use Rattle.lease.specs.declared.Refusal.{Refusal}
 use Rattle.timer.specs.declared.Reading.{Reading}
 use Rattle.timer.specs.declared.Timer.{Timer}
 use Rattle.timer.specs.Timers.{is_active, ms_left}
-use Rattle.timer.proofs.Laws.{zero-when-over}
+use Rattle.timer.proofs.Claims.{zero-when-over}
 use Rattle.lease.specs.Pass as P
 use Rattle.lease.specs.declared.Manager.{Manager}
 use Rattle.lease.specs.Rows.{present, active_entry}

@@ -1,12 +1,12 @@
+-- Why the claims of the rules hold, and what proofs above use of them.
 pub mod Tests
 pub mod RecordCheck
 pub mod Tables
 pub mod Judged
+pub mod NumbersLemmas
 pub mod FiredOrder
 pub mod Due
 pub mod Fired
 pub mod Left
-pub mod Shift
-pub mod Slips
-pub mod Edges
-pub mod Branches
+pub mod RuleClaims
+pub mod Computing

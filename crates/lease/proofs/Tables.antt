@@ -1,4 +1,4 @@
--- The law of one pass over the ids: below n each entry is what the rule makes of it, from n on as before. Assumes nothing.
+-- The law of one pass over the ids: below n each entry is what the rule makes of it, from n on as before.
 use Prim.Native.Nat.{ℕ, zero, suc, ◌+◌, ◌<◌, ◌≤◌}
 use mathlib.Core.List.{List, [], ◌∷◌}
 use mathlib.Core.Path.{◌≡◌, refl, ap}

@@ -1,4 +1,4 @@
--- Tests in a row, as the rules write them. Assumes nothing.
+-- Tests in a row, as the rules write them.
 use mathlib.Core.Path.{◌≡◌, refl, sym}
 use mathlib.Core.Bool.{Bool, true, false, cond, true≢false, ◌&&◌}
 

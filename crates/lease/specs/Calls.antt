@@ -1,5 +1,5 @@
--- Document 01, "Outer calls", on a record that is not refused. Definitions only.
-use Rattle.std.specs.Prelude.{ℕ, ◌+◌, ◌*◌, ◌%◌, Bool, true, false, cond, List, leb, ltb, Option, None, Some, Ok, ℤ, Float, Result, Err, []}
+-- Rules 8 and 9: the calls other than notices, on a record that is not refused.
+use Rattle.std.specs.Prelude.{ℕ, ◌+◌, ◌*◌, ◌%◌, Bool, true, false, cond, List, leb, ltb, Option, None, Some, Ok, ℤ, Result, Err, []}
 use Rattle.lease.specs.declared.Answered.{Answered}
 use Rattle.lease.specs.declared.Line.{Line}
 use Rattle.timer.specs.declared.Timer.{Timer}
@@ -19,10 +19,10 @@ use Rattle.lease.specs.declared.FiredTimers.{FiredTimers}
 use Rattle.lease.specs.declared.Refusal.{Refusal}
 use Rattle.lease.specs.declared.Advanced.{Advanced}
 use Rattle.lease.specs.Rows.{row_at}
-use Rattle.lease.specs.Fired.{fired_of, fired_timers}
+use Rattle.lease.specs.Fired.{fired_of, fired_array}
 use Rattle.lease.specs.Notices.{line, pass_on, with_peers}
 
--- The record with another reading, clock and quiet timer, and other rows.
+-- the record with another reading, clock and quiet timer, and other rows
 abbrev pub with_time : Manager → Reading → Clock → Option Reading → List Peer → Manager
 with_time m now clock quiet rows =
     record {
@@ -38,7 +38,7 @@ with_time m now clock quiet rows =
 
 -- ---- quiet time
 
--- The quiet timer fires as other timers do, and quiet time is then over.
+-- rule 8.4: quiet time is over at the first reading at or past its end
 abbrev pub quiet_fires : Reading → Option Reading → Bool
 quiet_fires now None = false
 quiet_fires now (Some d) = leb d.0 now.0
@@ -51,24 +51,24 @@ abbrev pub is_quiet : Reading → Option Reading → Bool
 is_quiet now None = false
 is_quiet now (Some d) = ltb now.0 d.0
 
--- When it fires, advance also gives the quiet-end line (0, GrantTimeout of (own id + 1) mod population) once.
+-- rule 8.4: the line that says so once, under number 0, of the id that follows the own one
 abbrev pub quiet_end : Bool → ℕ → ℕ → Option Line
 quiet_end true own n = Some (line (record { 0 = 0 }) (GrantTimeout ((own + 1) % n)))
 quiet_end false own n = None
 
--- `assume_unknown_grants` arms the quiet timer for the drifted 2T, replacing an earlier one.
+-- rule 8.4, the Rust's `assume_unknown_grants`: quiet time from now for the drifted 2T, whatever was before
 unfoldable pub assume_unknown_grants : Manager → Manager
 assume_unknown_grants m =
     with_time m m.now m.clock (Some (record { 0 = m.now.0 + drifted m.clock (2 * m.expire_timeout) })) m.peers
 
 -- ---- advance
 
--- The timers that fire, in order (document 02, wish 2): those of the two sets, by the deadlines that they have before they explode.
+-- rule 8.3: the timers that fire, those of the two sets, by the deadlines that they have before they explode
 unfoldable pub fired_by : Manager → Reading → List FiredTimer
 fired_by m to = fired_of m.peers (pass_on m (P.Advance to)).first (pass_on m (P.Advance to)).second
 
--- Sets the clock; each armed timer with deadline at or below it explodes once. It answers the set of peers whose sent timers and the
--- set whose held timers fired, and these timers in order.
+-- rules 8.1 to 8.4: the reading is the new one, each timer whose deadline is reached explodes, and the answer has the two sets, the list, and
+-- the quiet-end line
 unfoldable pub advance_to : Manager → Reading → Answered Advanced
 advance_to m to =
     record {
@@ -78,24 +78,24 @@ advance_to m to =
             sent = (pass_on m (P.Advance to)).first;
             held = (pass_on m (P.Advance to)).second;
             quiet_end = quiet_end (quiet_fires to m.quiet_timer) m.me m.population;
-            fired = fired_timers (fired_by m to);
+            fired = fired_array (fired_by m to);
           });
       manager = with_time m to m.clock (quiet_at to m.quiet_timer) (pass_on m (P.Advance to)).peers;
     }
 
--- The sets that it answers, with the quiet-end line.
+-- the sets that it answers, with the quiet-end line
 abbrev pub sets_of : Result Advanced Refusal → Result (Bitmap × Bitmap × Option Line) Refusal
 sets_of (Ok a) = Ok (a.sent, a.held, a.quiet_end)
 sets_of (Err k) = Err k
 
--- The timers that it lists: none where it is refused.
+-- the timers that it lists; none where it is refused
 abbrev pub fired_in : Result Advanced Refusal → FiredTimers
 fired_in (Ok a) = a.fired
-fired_in (Err k) = fired_timers []
+fired_in (Err k) = fired_array []
 
 -- ---- refresh and drift
 
--- `attempt_refresh`: T is drifted once for all peers.
+-- rule 8.5, the Rust's `attempt_refresh`: T is drifted once for all peers
 abbrev pub refresh_pass : Manager → Option Bitmap → Pass
 refresh_pass m set = P.Refresh set m.now (drifted m.clock m.expire_timeout)
 
@@ -103,7 +103,7 @@ unfoldable pub attempt_refresh : Manager → Option Bitmap → Answered Bitmap
 attempt_refresh m set =
     record { outcome = Ok (pass_on m (refresh_pass m set)).first; manager = with_peers m (pass_on m (refresh_pass m set)).peers }
 
--- Drift setting: true or any i8.
+-- rules 3.3 and 8.6: true, or an i8 of percent
 abbrev pub clock_of : Option ℤ → Clock
 clock_of None = K.True
 clock_of (Some d) = K.Drifting (quotient_of d)
@@ -113,19 +113,19 @@ set_drift m setting = with_time m m.now (clock_of setting) m.quiet_timer m.peers
 
 -- ---- questions
 
--- `grant_set`: all but own id in quiet time, else the peers with a promise sent.
+-- rule 9.1: in quiet time all but the own id, else the peers with a promise sent
 unfoldable pub grant_set : Manager → Bitmap
 grant_set m = cond (is_quiet m.now m.quiet_timer) (pass_on m P.Everyone).first (pass_on m P.Granted).first
 
--- `lease_set`: held promises that are active.
+-- rule 9.2: the peers with an active held promise
 unfoldable pub lease_set : Manager → Bitmap
 lease_set m = (pass_on m (P.Leased m.now)).first
 
--- `lease_cnt`: 1 + the size of that.
+-- rule 9.3: one more than that set has ids
 unfoldable pub lease_cnt : Manager → ℕ
 lease_cnt m = 1 + (pass_on m (P.Leased m.now)).count
 
--- Time left: for a peer, none without a held promise; otherwise deadline minus now in whole milliseconds, rounded up.
+-- rule 9.4: none without a held promise, else the ms to its deadline, rounded up
 abbrev pub left_on : Reading → Option Timer → Option ℕ
 left_on now None = None
 left_on now (Some t) = Some (ms_left now t)

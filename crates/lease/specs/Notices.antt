@@ -1,4 +1,4 @@
--- Document 01, "Steps for one notice", on the record: the Rust's `run` with `handle_notice`. Definitions only.
+-- Rule 7: a notice that is not refused, on the whole record (the Rust's `run` with `handle_notice`).
 use Rattle.std.specs.Prelude.{ℕ, Bool, true, false, cond, List, eqb, ltb, set, Option}
 use Rattle.lease.specs.declared.Bar.{Bar}
 use Rattle.bitmap.specs.declared.Bitmap.{Bitmap}
@@ -35,7 +35,7 @@ use Rattle.lease.specs.Passes.{pass_over}
 abbrev pub term_of : Manager → Term
 term_of m = record { clock = m.clock; now = m.now; expire_timeout = m.expire_timeout }
 
--- The record with another number and other rows, and with other rows.
+-- the record with another number and other rows, and with other rows alone
 abbrev pub with_num : Manager → LeaseNum → List Peer → Manager
 with_num m num rows =
     record {
@@ -52,13 +52,13 @@ with_num m num rows =
 abbrev pub with_peers : Manager → List Peer → Manager
 with_peers m rows = with_num m m.active_num rows
 
--- A pass over the peers of a record.
+-- a pass over the peers of a record
 abbrev pub pass_on : Manager → Pass → Passed
 pass_on m pass = pass_over pass m.me m.population m.peers
 
 -- ---- a notice under the active number
 
--- A notice about one peer changes that peer's row alone.
+-- rules 7.7 to 7.13: a notice about one peer changes that peer's row alone
 abbrev pub handled_at : Manager → ℕ → PeerNotice → Handled
 handled_at m id notice = handle_peer_notice (term_of m) id notice (row_at m.peers id)
 
@@ -66,7 +66,7 @@ unfoldable pub on_peer : Manager → ℕ → PeerNotice → Acted
 on_peer m id notice =
     record { actions = (handled_at m id notice).actions; manager = with_peers m (set m.peers id (handled_at m id notice).peer) }
 
--- NewGrants: one Guard broadcast to the peers that got a fresh guard, even when there are none.
+-- rule 7.4: one Guard to all peers that get a fresh guard, even where there are none
 unfoldable pub handle_new_grants : Manager → Option Bitmap → Option Bar → Acted
 handle_new_grants m to bar =
     record {
@@ -74,7 +74,7 @@ handle_new_grants m to bar =
       manager = with_peers m (pass_on m (P.NewGrants to)).peers;
     }
 
--- DoRevoke broadcasts Revoke to the peers whose sent promises it marked, if any.
+-- rule 7.5: one Revoke to all peers whose promise is being revoked, if there are any
 abbrev pub revoke_to : Bitmap → Actions
 revoke_to set = cond (eqb (number set) 0) AS.None (AS.One (A.BcastLeaseMsgs set M.Revoke))
 
@@ -82,7 +82,7 @@ unfoldable pub handle_do_revoke : Manager → Option Bitmap → Acted
 handle_do_revoke m to =
     record { actions = revoke_to (pass_on m (P.DoRevoke to)).first; manager = with_peers m (pass_on m (P.DoRevoke to)).peers }
 
--- ClearHeld: LeaseCleared always.
+-- rule 7.6: LeaseCleared, also where nothing is held
 unfoldable pub handle_clear_held : Manager → Acted
 handle_clear_held m = record { actions = AS.One A.LeaseCleared; manager = with_peers m (pass_on m P.ClearHeld).peers }
 
@@ -96,11 +96,11 @@ handle_notice m (N.LeaseTimeout id) = on_peer m id PN.LeaseTimeout
 
 -- ---- the number
 
--- A number above: both guard tables and both promise tables are emptied, the number becomes active.
+-- rules 7.2 and 7.3: under a higher number one pass takes all guards and promises, and the number becomes active
 unfoldable pub raised_to : Manager → LeaseNum → Manager
 raised_to m num = with_num m num (pass_on m P.HigherNumber).peers
 
--- A number below: a Revoke message is answered RevokeReply{held:false}; anything else gives nothing.
+-- rule 7.1: under a lower number a Revoke is answered RevokeReply{false}, and all else gives nothing
 abbrev pub outdated_msg : ℕ → LeaseMsg → Actions
 outdated_msg id (M.Guard bar) = AS.None
 outdated_msg id M.GuardReply = AS.None
@@ -117,7 +117,7 @@ outdated (N.RecvLeaseMsg id msg) = outdated_msg id msg
 outdated (N.GrantTimeout id) = AS.None
 outdated (N.LeaseTimeout id) = AS.None
 
--- Each action under the notice's number; HigherNumber comes first where the number was raised.
+-- rule 7.14: each action under the notice's number, HigherNumber first where the number was raised
 abbrev pub line : LeaseNum → LeaseAction → Line
 line num a = record { 0 = num; 1 = a }
 
@@ -129,8 +129,7 @@ numbered num higher (AS.Two a b) = cond higher (L.Three (line num A.HigherNumber
 abbrev pub acted_under : LeaseNum → Bool → Acted → Accepted
 acted_under num higher a = record { lines = numbered num higher a.actions; manager = a.manager }
 
--- A notice that is not refused. A number below the active one: nothing changes. A number above: the record is raised to it and
--- HigherNumber comes first, then the notice is handled.
+-- rules 7.1 and 7.2: under a lower number nothing changes; a higher one is taken first, and then the notice is handled
 unfoldable pub accepted_of : Manager → LeaseNum → LeaseNotice → Accepted
 accepted_of m num notice =
     cond (ltb num.0 m.active_num.0) (record { lines = numbered num false (outdated notice); manager = m })

@@ -1,4 +1,4 @@
--- The passes over the ids, each a rule on every peer's row. A name for proofs alone: the code passes the rule itself. Definitions only.
+-- The passes over the ids, by name: each of rules 7.2 to 7.6, 8.1, 8.5, 9.1 and 9.2 asks for one. The code passes the rule itself.
 use Rattle.std.specs.Prelude.{ℕ, Option}
 use Rattle.bitmap.specs.declared.Bitmap.{Bitmap}
 use Rattle.timer.specs.declared.Reading.{Reading}
@@ -9,10 +9,10 @@ pub data Pass : Type 0 where
   ClearHeld : Pass
   HigherNumber : Pass
   Advance : Reading → Pass
-  -- the set, the reading, and T as the clock has it
+  -- the set, the reading, and T by the clock
   Refresh : Option Bitmap → Reading → ℕ → Pass
-  -- the test of `grant_set` outside quiet time, and in it
+  -- rule 9.1 outside quiet time, and in it
   Granted : Pass
   Everyone : Pass
-  -- the test of `lease_set`
+  -- rule 9.2
   Leased : Reading → Pass

@@ -1,4 +1,4 @@
--- Refusal 15: what is asked of a record before a call looks at anything else. Definitions only.
+-- Rule 5.3: which records are a manager's. A call looks at this before all else, and refuses any other record with 15 (rule 10.15).
 use Rattle.std.specs.Prelude.{ℕ, zero, suc, ◌+◌, Bool, true, false, cond, not, ◌&&◌, ◌||◌, List, eqb, leb, ltb, Option, None, Some}
 use Rattle.bitmap.specs.Bitmaps.{capacity}
 use Rattle.drift.specs.Clocks.{is_settable}
@@ -13,11 +13,11 @@ use Rattle.lease.specs.Limits.{timeout_valid, population_valid, own_valid, readi
 
 -- ---- timers
 
--- A deadline is above the reading, and not over 3,000 s past it.
+-- a deadline is above the reading, and not over 3,000 s past it
 abbrev pub deadline_valid : Reading → Reading → Bool
 deadline_valid now d = cond (ltb now.0 d.0) (leb d.0 (now.0 + farthest)) false
 
--- A sent guard is neither armed nor exploded.
+-- a sent guard is unarmed
 abbrev pub unarmed : Timer → Bool
 unarmed Unarmed = true
 unarmed (Armed d) = false
@@ -27,7 +27,7 @@ abbrev pub sent_guard_valid : Option Timer → Bool
 sent_guard_valid None = true
 sent_guard_valid (Some t) = unarmed t
 
--- No timer in another table is unarmed.
+-- no other timer is
 abbrev pub timer_valid : Reading → Timer → Bool
 timer_valid now Unarmed = false
 timer_valid now (Armed d) = deadline_valid now d
@@ -51,7 +51,7 @@ abbrev pub timers_valid : Reading → Peer → Bool
 timers_valid now row =
     (sent_guard_valid row.guard_sent && grant_valid now row.promise_sent) && (entry_valid now row.guard_held && entry_valid now row.promise_held)
 
--- No peer is in both tables of one side.
+-- no peer has a guard and a promise on one side
 abbrev pub sides_valid : Peer → Bool
 sides_valid row =
     (not (present row.guard_sent) || not (granted row.promise_sent)) && (not (present row.guard_held) || not (present row.promise_held))
@@ -59,7 +59,7 @@ sides_valid row =
 unfoldable pub row_valid : Reading → Peer → Bool
 row_valid now row = timers_valid now row && sides_valid row
 
--- No entry and no mark.
+-- no entry and no mark
 abbrev pub entries_empty : Peer → Bool
 entries_empty row =
     (not (present row.guard_sent) && not (granted row.promise_sent)) && (not (present row.guard_held) && not (present row.promise_held))
@@ -67,22 +67,22 @@ entries_empty row =
 unfoldable pub row_empty : Peer → Bool
 row_empty row = cond row.refresh_mark false (entries_empty row)
 
--- No entry or mark is there for the own id or for an id not below the population.
+-- the rows of the own id and of ids from the population on are empty
 unfoldable pub row_valid_at : ℕ → ℕ → Reading → ℕ → Peer → Bool
 row_valid_at own n now i row = cond (ltb i n) (cond (eqb i own) (row_empty row) (row_valid now row)) (row_empty row)
 
--- The rows of the ids below k.
+-- the rows of the ids below k
 unfoldable pub rows_valid : ℕ → ℕ → Reading → List Peer → ℕ → Bool
 rows_valid own n now rows zero = true
 rows_valid own n now rows (suc k) = rows_valid own n now rows k && row_valid_at own n now k (row_at rows k)
 
 -- ---- the record
 
--- T, population, own id and reading are within set-up's limits.
+-- T, population, own id and reading are within set-up's limits
 unfoldable pub limits_valid : Manager → Bool
 limits_valid m = (timeout_valid m.expire_timeout && population_valid m.population) && (own_valid m.me m.population && reading_valid m.now)
 
--- And some drift setting gives the clock.
+-- and some drift setting gives the clock (rule 3.7)
 unfoldable pub record_valid : Manager → Bool
 record_valid m =
     (limits_valid m && rows_valid m.me m.population m.now m.peers capacity) && (is_settable m.clock && quiet_valid m.now m.quiet_timer)

@@ -1,4 +1,4 @@
--- Document 01, "Refused calls": its numbers, and of the calls on a record each call's own refusals in their order. Definitions only.
+-- Rule 10: the numbers of the refusals, and of the calls on a record each call's own refusals in their order (rule 10.30).
 use Rattle.std.specs.Prelude.{ℕ, Bool, cond, not, eqb, leb, ltb, Option, None, Some, Result, Ok, Err}
 use Rattle.bitmap.specs.Operations.{bad_size}
 use Rattle.bitmap.specs.declared.Bitmap.{Bitmap}
@@ -9,7 +9,7 @@ use Rattle.lease.specs.declared.Refusal.{Refusal}
 use Rattle.lease.specs.declared.Refusal.TheVariants as R
 use Rattle.lease.specs.Limits.{reading_valid}
 
--- Document 01's number of a refusal.
+-- refusal N is rule 10.N
 abbrev pub refusal_number : Refusal → ℕ
 refusal_number R.TimeoutOutOfRange = 1
 refusal_number R.HeartbeatTooSlow = 2
@@ -23,11 +23,11 @@ refusal_number R.SetSizeNotPopulation = 9
 refusal_number R.SetSizeOutOfRange = 12
 refusal_number R.InvalidRecord = 15
 
--- A notice about one peer, and time left: 7, peer not below population; 8, peer is own id.
+-- a notice about one peer, and time left: 7, the peer is not below the population; then 8, it is the own id
 abbrev pub peer_refusal : ℕ → ℕ → ℕ → Result (Unit {0}) Refusal
 peer_refusal n me id = cond (leb n id) (Err R.PeerNotBelowPopulation) (cond (eqb id me) (Err R.PeerIsOwn) (Ok tt))
 
--- NewGrants and DoRevoke with a set: 9, its size is not the population.
+-- NewGrants and DoRevoke with a set: 9, its size is not the population
 abbrev pub set_refusal : ℕ → Option Bitmap → Result (Unit {0}) Refusal
 set_refusal n None = Ok tt
 set_refusal n (Some b) = cond (eqb b.size n) (Ok tt) (Err R.SetSizeNotPopulation)
@@ -40,20 +40,20 @@ notice_refusal n me (N.RecvLeaseMsg id msg) = peer_refusal n me id
 notice_refusal n me (N.GrantTimeout id) = peer_refusal n me id
 notice_refusal n me (N.LeaseTimeout id) = peer_refusal n me id
 
--- Advance: 5, reading over the maximum; then 6, reading below the present one (equal is accepted).
+-- advance: 5, the reading is over the greatest; then 6, it is below the present one (the same is accepted)
 abbrev pub advance_refusal : Reading → Reading → Result (Unit {0}) Refusal
 advance_refusal now to = cond (not (reading_valid to)) (Err R.ReadingTooHigh) (cond (ltb to.0 now.0) (Err R.ReadingBelowPresent) (Ok tt))
 
--- A refresh set: 12, size not 1 to 64.
+-- refresh: 12, the size of its set is not 1 to the capacity; it need not be the population
 abbrev pub refresh_refusal : Option Bitmap → Result (Unit {0}) Refusal
 refresh_refusal None = Ok tt
 refresh_refusal (Some b) = cond (bad_size b.size) (Err R.SetSizeOutOfRange) (Ok tt)
 
--- What a call gives whose own refusals are looked at: refused by the first that applies, else done.
+-- refused by the first refusal that applies, else done
 abbrev pub unless : {A : Type 0} → Result (Unit {0}) Refusal → (Refusal → A) → A → A
 unless (Ok x) refused done = done
 unless (Err e) refused done = refused e
 
--- A call on a manager's record looks at the record first: 15. Then the call's own refusals; then what it does.
+-- rule 10.30: first 15, the record; then the call's own refusals; then what it does
 abbrev pub judged : {A : Type 0} → Bool → Result (Unit {0}) Refusal → (Refusal → A) → A → A
 judged valid check refused done = cond valid (unless check refused done) (refused R.InvalidRecord)

@@ -1,4 +1,4 @@
--- Set-up, the Rust's `new_and_setup`. Definitions only.
+-- Rule 6: set-up, the Rust's `new_and_setup`.
 use Rattle.std.specs.Prelude.{ℕ, ◌*◌, cond, not, leb, replicate, None, Result, Ok, Err}
 use Rattle.bitmap.specs.Bitmaps.{capacity}
 use Rattle.lease.specs.declared.Answered.{Answered}
@@ -11,8 +11,7 @@ use Rattle.lease.specs.Rows.{empty_row}
 use Rattle.lease.specs.Refusals.{unless}
 use Rattle.lease.specs.Limits.{timeout_valid, population_valid, own_valid, reading_valid}
 
--- Refused: 1, T under 100 ms or over 10 s; 2, twice the heartbeat not below T; 3, population not 1 to 64; 4, own id not below population; 5,
--- reading over the maximum.
+-- rules 10.1 to 10.5, in this order
 abbrev pub setup_refusal : ℕ → ℕ → ℕ → ℕ → Reading → Result (Unit {0}) Refusal
 setup_refusal me n t heartbeat now =
     cond (not (timeout_valid t)) (Err R.TimeoutOutOfRange)
@@ -20,7 +19,7 @@ setup_refusal me n t heartbeat now =
     (cond (not (population_valid n)) (Err R.PopulationOutOfRange)
     (cond (not (own_valid me n)) (Err R.OwnNotBelowPopulation) (cond (not (reading_valid now)) (Err R.ReadingTooHigh) (Ok tt)))))
 
--- Set-up starts under number 0, with all four tables and the marks empty and outside quiet time. The clock starts true.
+-- rule 6.2: number 0, a true clock, no quiet time, and every row empty
 unfoldable pub fresh : ℕ → ℕ → ℕ → Reading → Manager
 fresh me n t now =
     record {
@@ -34,7 +33,7 @@ fresh me n t now =
       peers = replicate capacity empty_row;
     }
 
--- A refused set-up answers beside its number a record of population 0, which every call refuses with 15.
+-- rule 6.3: a refused set-up answers its number, and a record of population 0, which every call refuses with 15
 unfoldable pub setup_of : ℕ → ℕ → ℕ → ℕ → Reading → Answered (Unit {0})
 setup_of me n t heartbeat now =
     unless (setup_refusal me n t heartbeat now) (λ k. record { outcome = Err k; manager = fresh 0 0 0 (record { 0 = 0 }) })

@@ -1,7 +1,7 @@
--- Tables by id. Definitions only.
+-- Tables by id (rule 5.1): the ids are the places.
 use Rattle.std.specs.Prelude.{ℕ, zero, suc, List, [], ◌∷◌}
 
--- The table t with f applied at each id below n, and as it was from n on.
+-- the table t with f applied at each id below n, and as it is from n on
 unfoldable pub below : {A : Type 0} → ℕ → (ℕ → A → A) → List A → List A
 below zero f t = t
 below (suc n) f [] = []

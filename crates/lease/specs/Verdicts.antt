@@ -1,5 +1,5 @@
--- Any call on a record, by its arguments other than the record, and what the rules make of it: refused by a number, or done, with its
--- lines and the next record. Definitions only.
+-- Rules 7 to 10 as one relation: any call on a record, and what the rules make of it, refused by a number, or done, with its lines and the
+-- next record. Lists of calls (rules 11 and 20) are read by it.
 use Rattle.std.specs.Prelude.{List, [], ◌∷◌, ℕ, Option, Result, Ok, Err, ℤ}
 use Rattle.lease.specs.declared.Refusal.{Refusal}
 use Rattle.bitmap.specs.declared.Bitmap.{Bitmap}
@@ -13,6 +13,7 @@ use Rattle.lease.specs.declared.Manager.{Manager}
 use Rattle.lease.specs.declared.Advanced.{Advanced}
 use Rattle.lease.specs.Rules.{notice_of, advance_of, quiet_of, refresh_of, drift_of, grant_set_of, lease_set_of, lease_cnt_of, time_left_of}
 
+-- a call, by its arguments other than the record
 pub data Call : Type 0 where
   notice : LeaseNum → LeaseNotice → Call
   advance : Reading → Call
@@ -28,6 +29,7 @@ pub data Verdict : Type 0 where
   refused : Refusal → Verdict
   done : List Line → Manager → Verdict
 
+-- the lines of a notice as a list
 abbrev pub lines_of : Lines → List Line
 lines_of L.None = []
 lines_of (L.One a) = a ∷ []
@@ -38,7 +40,7 @@ abbrev pub by_notice : Result Lines Refusal → Manager → Verdict
 by_notice (Err k) m = refused k
 by_notice (Ok lines) m = done (lines_of lines) m
 
--- The quiet-end line is no notice's line: the log leaves it out.
+-- rule 11.1: the quiet-end line is no notice's line, and is not logged
 abbrev pub by_advance : Result Advanced Refusal → Manager → Verdict
 by_advance (Err k) m = refused k
 by_advance (Ok fired) m = done [] m

@@ -1,84 +1,124 @@
 // The types of the lease manager, with the names of the Rust's src/server/leaseman.rs. The rules on
-// them, document 01 as definitions, stand in specs/.
+// them are definitions, in specs/; `laws` claims what holds of the rules.
 #![tactic(auto)]
 
-ghost use Rattle.std.specs.Prelude.{◌≡◌};
+ghost use Rattle.std.specs.Prelude.{[], ◌≡◌};
+ghost use Rattle.lease.specs.Fired.{fired_array};
 ghost use Rattle.lease.specs.Handlers.{no_action, one_action, two_actions};
 ghost use Rattle.lease.specs.Refusals.{refusal_number};
 
-use bitmap::Bitmap;
-use drift::Clock;
-use timer::{Reading, Timer};
+pub mod laws;
 
-// A replica's id. Wider than the Rust's u8, so that an id is judged as it was written: 300 is refused
-// as 300.
+pub use bitmap::{Bitmap, CAPACITY};
+pub use drift::Clock;
+pub use timer::{Reading, Timer};
+
+// ---- ids and numbers
+
+/// A controller's id (rule 1.1). Wider than the Rust's u8, so that an id is judged as it was
+/// written: 300 is refused as 300.
 pub type ReplicaId = usize;
 
-// Lease number, never decreasing. A tuple struct of its own, as `Bar` and `Reading`, so that one is
-// never taken for another.
+/// A lease number (rule 1.2). A struct of its own, as `Bar` and `Reading` are, so that one is never
+/// taken for another.
 #[derive(Clone, Copy, PartialEq, Eq, PartialOrd, Ord)]
 pub struct LeaseNum(pub u64);
 
-// Accept bar: a threshold that a Guard may carry for the protocol above.
+/// An accept bar (rule 1.2): a threshold that a Guard may carry for the protocol above.
 #[derive(Clone, Copy)]
 pub struct Bar(pub u64);
 
+/// How many ids a record has rows for: the capacity of a set.
+pub const ROWS: usize = CAPACITY as usize;
+
+/// How many timers can fire at once: one on each side for each id.
+pub const TIMERS: usize = 2 * ROWS;
+
 // ---- the record
 
-// One id's row: its entry of each of the Rust's `guards_sent`, `promises_sent`, `guards_held` and
-// `promises_held`, and its refresh mark. A sent promise has its timer, and whether it is being revoked: a pair, as the Rust's
-// table has it.
+/// One id's row (rule 5.2): its entry of each of the Rust's four tables, and its refresh mark.
 #[derive(Clone, Copy)]
 pub struct Peer {
+    /// The guard sent to the peer: never armed.
     pub guard_sent: Option<Timer>,
+    /// The promise sent to the peer, and whether it is being revoked: a pair, as the Rust's table
+    /// has it.
     pub promise_sent: Option<(Timer, bool)>,
+    /// The guard held from the peer.
     pub guard_held: Option<Timer>,
+    /// The promise held from the peer.
     pub promise_held: Option<Timer>,
+    /// The refresh mark (rule 1.7): the next refresh is to take the peer.
     pub refresh_mark: bool,
 }
 
-// The manager's record. `expire_timeout` is document 01's T, in ns; `quiet_timer` is none, or the reading
-// at which quiet time (document 01's term) ends.
+/// A manager's record (rule 5.1).
 #[derive(Clone, Copy)]
 pub struct Manager {
+    /// The own id.
     pub me: ReplicaId,
+    /// How many controllers there are: their ids are those below it.
     pub population: usize,
+    /// T (rule 1.3), in ns.
     pub expire_timeout: u64,
+    /// The reading of the last accepted advance, or of set-up.
     pub now: Reading,
+    /// The highest lease number so far.
     pub active_num: LeaseNum,
+    /// The clock that T is measured by.
     pub clock: Clock,
+    /// The reading at which quiet time (rule 1.6) ends; none outside it.
     pub quiet_timer: Option<Reading>,
-    pub peers: [Peer; 64],
+    /// A row for each id; those of the own id and from the population on are empty.
+    pub peers: [Peer; ROWS],
 }
 
-// ---- messages, notices, actions
+/// What the deadlines of a notice are worked out from.
+#[derive(Clone, Copy)]
+pub struct Term {
+    pub clock: Clock,
+    pub now: Reading,
+    /// T, in ns, before the clock's drift.
+    pub expire_timeout: u64,
+}
 
+// ---- messages and notices
+
+/// A message between two controllers.
 #[derive(Clone, Copy)]
 pub enum LeaseMsg {
-    // the Rust's `accept_bar`
+    /// Rule 7.7, with the Rust's `accept_bar`.
     Guard(Option<Bar>),
+    /// Rule 7.8.
     GuardReply,
+    /// Rule 7.9.
     Promise,
-    // held
+    /// Rule 7.10. Whether the promise is held.
     PromiseReply(bool),
+    /// Rule 7.11.
     Revoke,
-    // held
+    /// Rule 7.12. Whether a promise was held.
     RevokeReply(bool),
 }
 
-// A set is the Rust's `peers: Option<Bitmap>`: no set means all.
+/// A notice (rule 1.5). A set is the Rust's `peers: Option<Bitmap>`: no set means all.
 #[derive(Clone, Copy)]
 pub enum LeaseNotice {
+    /// Rule 7.4: guards for these peers, with this bar.
     NewGrants(Option<Bitmap>, Option<Bar>),
+    /// Rule 7.5: revoke what was sent to these peers.
     DoRevoke(Option<Bitmap>),
+    /// Rule 7.6: drop all that is held.
     ClearHeld,
+    /// Rules 7.7 to 7.12: a message came from the peer.
     RecvLeaseMsg(ReplicaId, LeaseMsg),
+    /// Rule 7.13: the timer on the sent side fired for the peer.
     GrantTimeout(ReplicaId),
+    /// Rule 7.13: the timer on the held side fired for the peer.
     LeaseTimeout(ReplicaId),
 }
 
-// What a notice about one peer says of that peer: three cases of `LeaseNotice`, which has all six flat, as in the Rust. A handler
-// meets these alone.
+/// What a notice about one peer says of that peer: three cases of `LeaseNotice`, without the id.
 #[derive(Clone, Copy)]
 pub enum PeerNotice {
     RecvLeaseMsg(LeaseMsg),
@@ -86,22 +126,33 @@ pub enum PeerNotice {
     LeaseTimeout,
 }
 
+// ---- actions and lines
+
+/// What a notice tells its caller to do, or to know (rule 1.5).
 #[derive(Clone, Copy)]
 pub enum LeaseAction {
+    /// Send the message to the peer.
     SendLeaseMsg(ReplicaId, LeaseMsg),
+    /// Send the message to each peer of the set, which may be empty.
     BcastLeaseMsgs(Bitmap, LeaseMsg),
+    /// The peer's promise goes on with the next refresh.
     NextRefresh(ReplicaId),
-    // held
+    /// The promise to the peer is gone. Whether the peer says that it held it.
     GrantRemoved(ReplicaId, bool),
+    /// Nothing is held any more.
     LeaseCleared,
+    /// What was sent to the peer has run out.
     GrantTimeout(ReplicaId),
+    /// What was held from the peer has run out.
     LeaseTimeout(ReplicaId),
+    /// The notice had a higher number than the active one.
     HigherNumber,
+    /// The peer's Guard carried this bar.
     GuardAcceptBar(ReplicaId, Bar),
 }
 
-// The actions of a handler, in order, before they are numbered. No list: with no heap one would need a capacity, and an
-// error that cannot come.
+/// The actions of a handler, in order, before they are numbered. An enum, since a list would need a
+/// heap or a capacity.
 #[derive(Clone, Copy)]
 pub enum Actions {
     None,
@@ -109,11 +160,11 @@ pub enum Actions {
     Two(LeaseAction, LeaseAction),
 }
 
-// The Rust's (LeaseNum, LeaseAction); "line" is document 01's term for it.
+/// An action under its number (rule 1.5): the Rust's `(LeaseNum, LeaseAction)`.
 #[derive(Clone, Copy)]
 pub struct Line(pub LeaseNum, pub LeaseAction);
 
-// The numbered actions of one notice, in order: at most three, and no list for the same reason.
+/// The lines of one notice, in order: at most three (rule 7.14), by type.
 #[derive(Clone, Copy)]
 pub enum Lines {
     None,
@@ -124,23 +175,15 @@ pub enum Lines {
 
 // ---- what the handlers and the passes give
 
-// What the deadlines of a handler are worked out from.
-#[derive(Clone, Copy)]
-pub struct Term {
-    pub clock: Clock,
-    pub now: Reading,
-    pub expire_timeout: u64,
-}
-
-// A notice about one peer: the peer's row after it, and its actions.
+/// What a notice about one peer makes of that peer's row, and its actions.
 #[derive(Clone, Copy)]
 pub struct Handled {
     pub peer: Peer,
     pub actions: Actions,
 }
 
-// The three ways in which a handler ends, on the row after it: no action, one, two.
 impl Handled {
+    /// A handler ends with no action.
     pub fn no_action(peer: Peer) -> Handled
         ensures { result ≡ no_action peer }
     {
@@ -150,6 +193,7 @@ impl Handled {
         }
     }
 
+    /// A handler ends with one action.
     pub fn one_action(peer: Peer, action: LeaseAction) -> Handled
         ensures { result ≡ one_action peer action }
     {
@@ -159,6 +203,7 @@ impl Handled {
         }
     }
 
+    /// A handler ends with two actions, in this order.
     pub fn two_actions(peer: Peer, first: LeaseAction, second: LeaseAction) -> Handled
         ensures { result ≡ two_actions peer first second }
     {
@@ -169,80 +214,113 @@ impl Handled {
     }
 }
 
-// What a pass makes of one row, and whether the id is in the pass's first set and in its second. No Option: the row is there
-// in either case.
+/// What a pass makes of one row.
 #[derive(Clone, Copy)]
 pub struct Visit {
+    /// The row after it, changed or not.
     pub peer: Peer,
+    /// Whether the id is in the pass's first set.
     pub first: bool,
+    /// Whether it is in the second.
     pub second: bool,
 }
 
-// What a pass makes of all rows: its two sets, and the count of the first, so that `lease_cnt` needs no second pass. Advance's sets
-// are the sent and the held timers that fired; the other passes have an empty second set.
+/// What a pass makes of all rows.
 #[derive(Clone, Copy)]
 pub struct Passed {
-    pub peers: [Peer; 64],
+    pub peers: [Peer; ROWS],
+    /// Of advance: the peers whose sent timers fired. Of the other passes: the peers that were
+    /// taken.
     pub first: Bitmap,
+    /// Of advance: the peers whose held timers fired. Of the other passes: empty.
     pub second: Bitmap,
+    /// How many ids the first set has, so that `lease_cnt` needs no second pass.
     pub count: u64,
 }
 
-// A notice's actions before they are numbered, and the next record. This and `Accepted` are two structs: nothing works on both, and
-// with one generic struct each field would need another name.
+/// A notice's actions before they are numbered, and the next record.
 #[derive(Clone, Copy)]
 pub struct Acted {
     pub actions: Actions,
     pub manager: Manager,
 }
 
-// A notice that is not refused: its actions under their number, and the next record.
+/// A notice that is not refused: its lines, and the next record.
 #[derive(Clone, Copy)]
 pub struct Accepted {
     pub lines: Lines,
     pub manager: Manager,
 }
 
-// A timer that fired: on which side, and whose. The id is a byte, as in the Rust, and the two structs are laid out as
-// in C, so that the list crosses to a host as it is.
+// ---- timers that fired
+
+/// A timer that fired. The id is a byte, as in the Rust, and the struct is laid out as in C, so
+/// that the list crosses to a host as it is.
 #[repr(C)]
 #[derive(Clone, Copy)]
 pub struct FiredTimer {
-    // The held side; else the sent side.
+    /// The held side; else the sent side.
     pub held: bool,
+    /// Whose it is.
     pub id: u8,
 }
 
-// The timers that fired, in order: the first `count` places. The others hold the sent timer of the id 0. A count beside
-// an array, since a host gets it over the C interface as it is.
+/// The timers that fired, in the firing order (rule 8.3). A count beside an array, since a host
+/// gets it over the C interface as it is.
 #[repr(C)]
 #[derive(Clone, Copy)]
 pub struct FiredTimers {
+    /// How many places are used, from the first on.
     pub count: usize,
-    pub timers: [FiredTimer; 128],
+    /// The unused places hold the sent timer of the id 0.
+    pub timers: [FiredTimer; TIMERS],
 }
 
-// ---- the answers: what a call did, or why it was refused
+impl FiredTimers {
+    /// No timer.
+    #[tactic(auto, unfolding(crate::specs::Fired::fired_array))]
+    pub fn none() -> FiredTimers
+        ensures { result ≡ fired_array [] }
+    {
+        let unused = FiredTimer { held: false, id: 0 };
+        FiredTimers {
+            count: 0,
+            timers: [unused; TIMERS],
+        }
+    }
+}
 
-// Document 01's refusals of set-up and of the calls on a record. No message: what is shown of one is its number, by a match of its
-// own, as its definition is: nothing takes a refusal of any type.
+// ---- refusals and answers
+
+/// Why set-up or a call on a record is refused. Its number is all that is shown of it (rule 10.31).
 #[derive(Clone, Copy, PartialEq, Eq)]
 pub enum Refusal {
+    /// 1 (rule 10.1): T is under 100 ms or over 10 s.
     TimeoutOutOfRange,
+    /// 2 (rule 10.2): twice the heartbeat is not below T.
     HeartbeatTooSlow,
+    /// 3 (rule 10.3): the population is not 1 to the capacity.
     PopulationOutOfRange,
+    /// 4 (rule 10.4): the own id is not below the population.
     OwnNotBelowPopulation,
+    /// 5 (rule 10.5): the reading is over 9,223,372,036,854,775,807 ns.
     ReadingTooHigh,
+    /// 6 (rule 10.6): the reading is below the present one.
     ReadingBelowPresent,
+    /// 7 (rule 10.7): the peer is not below the population.
     PeerNotBelowPopulation,
+    /// 8 (rule 10.8): the peer is the own id.
     PeerIsOwn,
+    /// 9 (rule 10.9): the size of a notice's set is not the population.
     SetSizeNotPopulation,
+    /// 12 (rule 10.12): the size of a refresh set is not 1 to the capacity.
     SetSizeOutOfRange,
+    /// 15 (rule 10.15): the record is no manager's.
     InvalidRecord,
 }
 
 impl Refusal {
-    // Document 01's number of the refusal.
+    /// The number of the refusal: refusal N is rule 10.N.
     pub fn number(self) -> u8
         ensures { result ≡ refusal_number self }
     {
@@ -262,18 +340,22 @@ impl Refusal {
     }
 }
 
-// What advance did: the peers whose sent timers fired, those whose held timers fired, the quiet-end line
-// (document 01's term) where it is due, and the same timers as a list in order (document 02, wish 2).
+/// What an advance did (rule 8.1).
 #[derive(Clone, Copy)]
 pub struct Advanced {
+    /// The peers whose sent timers fired.
     pub sent: Bitmap,
+    /// The peers whose held timers fired.
     pub held: Bitmap,
+    /// The quiet-end line (rule 8.4), where quiet time ended.
     pub quiet_end: Option<Line>,
+    /// The timers of both sets as a list in the firing order (rule 8.3).
     pub fired: FiredTimers,
 }
 
-// A by-value answer holds the next record beside the outcome. On a refusal it is the record that went in; on
-// a refused set-up it is a record that every call refuses.
+/// The answer of a call by value: its outcome, and the next record. Where it is refused, that is
+/// the record that went in (rule 10.31); of a refused set-up, one that every call refuses (rule
+/// 6.3).
 #[derive(Clone, Copy)]
 pub struct Answered<T> {
     pub outcome: Result<T, Refusal>,

@@ -1,5 +1,6 @@
--- The invariant of the rules' record beside the journal, and that every accepted call keeps it. Assumes nothing: the laws of drift are the drift crate's.
-use Rattle.std.specs.Prelude.{Option, None, Some, ℤ, Float, Ok}
+-- What ties a record to its journal, and that every accepted call on a valid record keeps it. Assumes nothing.
+use Rattle.lease.specs.Bitmaps.{capacity}
+use Rattle.std.specs.Prelude.{Option, None, Some, ℤ, Ok}
 use mathlib.Core.Path.{◌≡◌, refl, ap, sym, subst, ◌∙◌}
 use mathlib.Core.Logic.{◌≢◌}
 use mathlib.Core.List.{List, [], ◌∷◌, ◌++◌, append_assoc, append-nil}
@@ -7,19 +8,14 @@ use mathlib.Core.Bool.{Bool, true, false, not, cond, ◌&&◌, ◌||◌}
 use Prim.Native.Nat.{ℕ, ◌+◌, ◌*◌, ◌≤◌, ◌<◌}
 use native.Mathlib.Nat.{le_refl}
 use native.Mathlib.Omega.{arith}
-use lib.Dec.{T, ltb, eqb}
+use lib.Dec.{ltb, eqb}
 use lib.ListN.{length, set, length-set}
 use lib.Seq.{get_or-set_same, get_or-set_other}
-use borrow.Author.Tests.{eqb-false, ne_eqb, lt-ltb, le-ltb}
+use borrow.Author.Tests.{ne_eqb, lt-ltb, le-ltb}
 use Rattle.lease.specs.declared.Bar.{Bar}
-use Rattle.bitmap.specs.declared.Bitmap.{Bitmap}
-use Rattle.bitmap.specs.Sets.{one}
-use Rattle.drift.specs.declared.Clock.{Clock}
-use Rattle.drift.specs.Clocks.{is_settable}
-use Rattle.drift.specs.Claims.{longest_in_use}
-use Rattle.drift.proofs.Laws.{clock-at-most, clock-above-zero, setting-found}
-use Rattle.timer.specs.declared.Reading.{Reading}
-use Rattle.timer.specs.Timers.{max_reading, drifted}
+use Rattle.lease.specs.Types.{Bitmap, Reading}
+use Rattle.lease.specs.Sets.{one}
+use Rattle.lease.specs.Timers.{drifted}
 use Rattle.lease.specs.declared.Peer.{Peer}
 use Rattle.lease.specs.declared.LeaseNum.{LeaseNum}
 use Rattle.lease.specs.declared.LeaseMsg.{LeaseMsg}
@@ -36,93 +32,48 @@ use Rattle.lease.specs.declared.LeaseNotice.TheVariants as N
 use Rattle.lease.specs.declared.PeerNotice.TheVariants as PN
 use Rattle.lease.specs.declared.Actions.TheVariants as AS
 use Rattle.lease.specs.Pass as P
-use Rattle.lease.proofs.Tables.{below-done, below_rest, length-below}
-use Rattle.lease.specs.Rows.{row_at, empty_row}
-use Rattle.lease.specs.Passes.{named, pass_row, row_after, pass_over}
+use Rattle.lease.specs.Rows.{row_at, empty_row, present, granted}
+use Rattle.lease.specs.Passes.{named, pass_row, advance_row}
 use Rattle.lease.specs.Notices.{outdated, term_of, with_peers, pass_on, handled_at, on_peer, handle_new_grants, handle_do_revoke, handle_clear_held, raised_to, handle_notice, accepted_of}
 use Rattle.lease.specs.Calls.{quiet_at, advance_to, assume_unknown_grants, refresh_pass, attempt_refresh, clock_of, set_drift}
-use Rattle.lease.proofs.Judged.{peer-below, peer-other}
+use Rattle.lease.specs.RecordCheck.{record_valid}
+use Rattle.lease.proofs.RecordCheck.{few-of}
 use Rattle.lease.specs.Refusals.{peer_refusal, notice_refusal}
-use Rattle.lease.specs.Verdicts.{drift, lines_of}
-use Rattle.lease_log.specs.Demand3.{Typed}
+use Rattle.lease.specs.Verdicts.{lines_of}
 use Rattle.lease_log.specs.Log.{LogLine, log-line, stamped, open_lines, Last, no_line, out, top_of, held_by, last_from, last_held, QuietStart, never, since, Journal}
-use Rattle.lease_log.proofs.Base.{Same, same, apart, sameb, Below, below, above, belowb, AtMost, at_most, lebb}
+use Rattle.reachable.proofs.Numbers.{Same, same, apart, sameb, Below, below, above, belowb, AtMost, at_most, beyond, lebb}
+use Rattle.reachable.proofs.Rows.{sent-apart}
+use Rattle.reachable.proofs.Records.{is_peer, passed-at, passed_length, peer-of, no-peer-empty, peer-valid}
+use Rattle.reachable.proofs.Reached.{raised-valid}
 use Rattle.lease_log.proofs.LogFacts.{open-append, top-append, last-append, Within, within-append, actions_of, lines_under, numbered-same, numbered-higher, About, ended-own, open_own, last-own, ended-other, open-other, last-other, top-lined, within-own}
-use Rattle.lease_log.proofs.RowFacts.{RowInv, peer-notice-row, peer-notice-about, new-grants-row, do-revoke-row, clear-held-row, higher-number-row, refresh-row, advance-row}
-use Rattle.lease_log.proofs.Base as Base
+use Rattle.lease_log.proofs.RowFacts.{Tied, peer-notice-row, peer-notice-about, new-grants-row, do-revoke-row, clear-held-row, higher-number-row, refresh-row, advance-row}
 
--- ---- what is needed of drift: a setting's clock is one that the record check takes
-
-setting-valid : (x : Option ℤ) → Typed (drift x) → is_settable (clock_of x) ≡ true
-setting-valid None f = refl
-setting-valid (Some d) f = setting-found d f
-
-above_zero : (c : Clock) (d : ℕ) → is_settable c ≡ true → 100000000 ≤ d → d ≤ longest_in_use → 0 < drifted c d
-above_zero c d k lo hi = clock-above-zero c (subst T (sym k) tt) d (omega arith) hi
-
-at-most-hundredfold : (c : Clock) (d : ℕ) → is_settable c ≡ true → d ≤ longest_in_use → drifted c d ≤ 100 * d
-at-most-hundredfold c d k hi = clock-at-most c (subst T (sym k) tt) d hi
-
--- ---- THE INVARIANT
-
-abbrev pub is_peer : ℕ → ℕ → ℕ → Bool
-is_peer n me p = cond (ltb p n) (not (eqb p me)) false
-
-pub record Limits (t n me : ℕ) (now : Reading) : Type 0 where
-  pub low : 100000000 ≤ t
-  pub high : t ≤ 10000000000
-  pub some : 1 ≤ n
-  pub few : n ≤ 64
-  pub own : me < n
-  pub reading : now.0 ≤ max_reading
+-- ---- THE TIE
 
 -- the quiet timer, against the last quiet start
-abbrev pub QuietOk : ℕ → Reading → Option Reading → QuietStart → Type 0
-QuietOk t now None never = Unit {0}
-QuietOk t now None (since r c) = r.0 + drifted c (2 * t) ≤ now.0
-QuietOk t now (Some d) never = ⊥
-QuietOk t now (Some d) (since r c) = (d.0 ≡ r.0 + drifted c (2 * t)) × (now.0 < d.0) × (d.0 ≤ now.0 + 2000000000000)
+abbrev pub QuietTied : ℕ → Reading → Option Reading → QuietStart → Type 0
+QuietTied t now None never = Unit {0}
+QuietTied t now None (since r c) = r.0 + drifted c (2 * t) ≤ now.0
+QuietTied t now (Some d) never = ⊥
+QuietTied t now (Some d) (since r c) = d.0 ≡ r.0 + drifted c (2 * t)
 
 pub record Inv (m : Manager) (j : Journal) : Type 0 where
-  pub sized : length m.peers ≡ 64
-  pub limits : Limits m.expire_timeout m.population m.me m.now
-  pub clock-valid : is_settable m.clock ≡ true
+  pub sized : length m.peers ≡ capacity
   pub same-now : j.now ≡ m.now
   pub same-clock : j.clock ≡ m.clock
-  pub quiet_ok : QuietOk m.expire_timeout m.now m.quiet_timer j.quiet
+  pub quiet_ok : QuietTied m.expire_timeout m.now m.quiet_timer j.quiet
   pub top : top_of 0 j.log ≡ m.active_num.0
   pub within : Within m.population j.log
-  pub rows : (p : ℕ) → p < 64 → RowInv m.expire_timeout m.now (row_at m.peers p) (open_lines p j.log) (last_held p j.log)
-  pub others-empty : (p : ℕ) → p < 64 → is_peer m.population m.me p ≡ false → row_at m.peers p ≡ empty_row
+  pub rows : (p : ℕ) → p < capacity → Tied m.expire_timeout m.now (row_at m.peers p) (open_lines p j.log) (last_held p j.log)
 
 -- the journal with lines added
 abbrev pub longer : Journal → List LogLine → Journal
 longer j l = record { now = j.now; clock = j.clock; quiet = j.quiet; log = j.log ++ l }
 
-moved : (t : ℕ) (now : Reading) {r r' : Peer} {o o' : ℕ} {h h' : Last} → r' ≡ r → o' ≡ o → h' ≡ h → RowInv t now r o h → RowInv t now r' o' h'
-moved t now {r} {r'} {o} {o'} {h} {h'} a b c k = subst (λ x. RowInv t now x o' h') (sym a) (subst (λ x. RowInv t now r x h') (sym b) (subst (λ x. RowInv t now r o x) (sym c) k))
+moved : (t : ℕ) (now : Reading) {r r' : Peer} {o o' : ℕ} {h h' : Last} → r' ≡ r → o' ≡ o → h' ≡ h → Tied t now r o h → Tied t now r' o' h'
+moved t now {r} {r'} {o} {o'} {h} {h'} a b c k = subst (λ x. Tied t now x o' h') (sym a) (subst (λ x. Tied t now r x h') (sym b) (subst (λ x. Tied t now r o x) (sym c) k))
 
--- ---- the row of an id after a pass
-
-module _ (m : Manager) (pass : Pass) (p : ℕ) (here : p < length m.peers) where
-  passed-at : (Q : Peer → Type 0) → (is_peer m.population m.me p ≡ true → Q (pass_row pass p (row_at m.peers p)).peer)
-      → (is_peer m.population m.me p ≡ false → Q (row_at m.peers p)) → Q (row_at (pass_on m pass).peers p)
-  unfolding pass_over
-  passed-at Q isp notp = go (belowb p m.population) (sameb p m.me)
-    where
-      go : Below p m.population → Same p m.me → Q (row_at (pass_on m pass).peers p)
-      go (below e l) (apart x k) = subst Q (sym (below-done m.population p (row_after pass m.me) m.peers empty_row l here ∙ rw (x, row_after))) (isp (rw (e, x)))
-      go (below e l) (same x k) = subst Q (sym (below-done m.population p (row_after pass m.me) m.peers empty_row l here ∙ rw (x, row_after))) (notp (rw (e, x)))
-      go (above e l) s = subst Q (sym (below_rest m.population p (row_after pass m.me) m.peers empty_row l)) (notp (rw e))
-
-passed_length : (m : Manager) (pass : Pass) → length (pass_on m pass).peers ≡ length m.peers
-unfolding pass_over
-passed_length m pass = length-below m.population (row_after pass m.me) m.peers
-
-clash : {A : Type 0} (b : Bool) → b ≡ true → b ≡ false → A
-clash b p q = Base.never (sym q ∙ p)
-
-module _ (m : Manager) (j : Journal) (i : Inv m j) where
+module _ (m : Manager) (j : Journal) (i : Inv m j) (v : record_valid m ≡ true) where
   -- the row, the open lines and the last held-side line of a peer
   abbrev R : ℕ → Peer
   R p = row_at m.peers p
@@ -136,30 +87,25 @@ module _ (m : Manager) (j : Journal) (i : Inv m j) where
   abbrev t : ℕ
   t = m.expire_timeout
 
-  in_rows : (p : ℕ) → p < 64 → p < length m.peers
+  in_rows : (p : ℕ) → p < capacity → p < length m.peers
   in_rows p h = let z = i.sized in omega arith
 
-  -- the rows of ids that are no peers stay empty
-  passed-others : (pass : Pass) (p : ℕ) → p < 64 → is_peer m.population m.me p ≡ false → row_at (pass_on m pass).peers p ≡ empty_row
-  passed-others pass p h n = passed-at m pass p (in_rows p h) (λ r. r ≡ empty_row) (λ y. clash (is_peer m.population m.me p) y n) (λ z. i.others-empty p h n)
+  no-past : {A : Type 0} (p : ℕ) → p < capacity → length m.peers ≤ p → A
+  no-past p h z = absurd (let s = i.sized in omega arith)
 
   -- ---- rows and lines replaced
 
-  relined : (l : List Peer) (ys : List LogLine) → length l ≡ 64 → top_of m.active_num.0 ys ≡ m.active_num.0 → Within m.population ys
-      → ((p : ℕ) → p < 64 → RowInv t m.now (row_at l p) (open_lines p (j.log ++ ys)) (last_held p (j.log ++ ys)))
-      → ((p : ℕ) → p < 64 → is_peer m.population m.me p ≡ false → row_at l p ≡ empty_row)
+  relined : (l : List Peer) (ys : List LogLine) → length l ≡ capacity → top_of m.active_num.0 ys ≡ m.active_num.0 → Within m.population ys
+      → ((p : ℕ) → p < capacity → Tied t m.now (row_at l p) (open_lines p (j.log ++ ys)) (last_held p (j.log ++ ys)))
       → Inv (with_peers m l) (longer j ys)
-  relined l ys z tp w g st = record {
+  relined l ys z tp w g = record {
     sized = z;
-    limits = i.limits;
-    clock-valid = i.clock-valid;
     same-now = i.same-now;
     same-clock = i.same-clock;
     quiet_ok = i.quiet_ok;
     top = top-append 0 j.log ys ∙ ap (λ x. top_of x ys) i.top ∙ tp;
     within = within-append m.population j.log ys i.within w;
     rows = g;
-    others-empty = st;
   }
 
   -- ---- a pass with lines that change nobody's view: a broadcast, or none
@@ -175,24 +121,22 @@ module _ (m : Manager) (j : Journal) (i : Inv m j) where
   idle-last p num b msg = last-append p 0 no_line j.log (log-line num (A.BcastLeaseMsgs b msg) m.now m.clock ∷ []) ∙ cond_same (ltb num.0 (top_of 0 j.log)) (H p)
 
   -- a pass that keeps the rows' invariant, with no line
-  passed-rows : (pass : Pass) → ((p : ℕ) → p < 64 → RowInv t m.now (pass_row pass p (R p)).peer (O p) (H p)) → (p : ℕ) → p < 64 → RowInv t m.now (row_at (pass_on m pass).peers p) (O p) (H p)
-  passed-rows pass g p h = passed-at m pass p (in_rows p h) (λ r. RowInv t m.now r (O p) (H p)) (λ y. g p h) (λ n. i.rows p h)
+  passed-rows : (pass : Pass) → ((p : ℕ) → p < capacity → Tied t m.now (pass_row pass p (R p)).peer (O p) (H p)) → (p : ℕ) → p < capacity → Tied t m.now (row_at (pass_on m pass).peers p) (O p) (H p)
+  passed-rows pass g p h = passed-at m pass p (λ r. Tied t m.now r (O p) (H p)) (λ y. g p h) (λ n. i.rows p h) (no-past p h)
 
   silent : {x : Manager} → Inv x j → Inv x (longer j [])
   silent {x} k = subst (λ l. Inv x (record { now = j.now; clock = j.clock; quiet = j.quiet; log = l })) (sym (append-nil j.log)) k
 
-  passed-silent : (pass : Pass) → ((p : ℕ) → p < 64 → RowInv t m.now (pass_row pass p (R p)).peer (O p) (H p)) → Inv (with_peers m (pass_on m pass).peers) j
+  passed-silent : (pass : Pass) → ((p : ℕ) → p < capacity → Tied t m.now (pass_row pass p (R p)).peer (O p) (H p)) → Inv (with_peers m (pass_on m pass).peers) j
   passed-silent pass g = subst (λ l. Inv (with_peers m (pass_on m pass).peers) (record { now = j.now; clock = j.clock; quiet = j.quiet; log = l })) (append-nil j.log)
       (relined (pass_on m pass).peers [] (passed_length m pass ∙ i.sized) refl tt
-      (λ p h. moved t m.now {r = row_at (pass_on m pass).peers p} refl (ap (open_lines p) (append-nil j.log)) (ap (last_held p) (append-nil j.log)) (passed-rows pass g p h))
-      (passed-others pass))
+      (λ p h. moved t m.now {r = row_at (pass_on m pass).peers p} refl (ap (open_lines p) (append-nil j.log)) (ap (last_held p) (append-nil j.log)) (passed-rows pass g p h)))
 
-  passed-bcast : (pass : Pass) (b : Bitmap) (msg : LeaseMsg) → ((p : ℕ) → p < 64 → RowInv t m.now (pass_row pass p (R p)).peer (O p) (H p))
+  passed-bcast : (pass : Pass) (b : Bitmap) (msg : LeaseMsg) → ((p : ℕ) → p < capacity → Tied t m.now (pass_row pass p (R p)).peer (O p) (H p))
       → Inv (with_peers m (pass_on m pass).peers) (longer j (log-line m.active_num (A.BcastLeaseMsgs b msg) m.now m.clock ∷ []))
   passed-bcast pass b msg g =
       relined (pass_on m pass).peers (log-line m.active_num (A.BcastLeaseMsgs b msg) m.now m.clock ∷ []) (passed_length m pass ∙ i.sized) refl (tt, tt)
       (λ p h. moved t m.now {r = row_at (pass_on m pass).peers p} refl (idle-open p m.active_num b msg) (idle-last p m.active_num b msg) (passed-rows pass g p h))
-      (passed-others pass)
 
   -- ---- NewGrants, DoRevoke, ClearHeld
 
@@ -207,7 +151,7 @@ module _ (m : Manager) (j : Journal) (i : Inv m j) where
   unfolding handle_notice handle_do_revoke
   do-revoke-inv to = go (eqb (pass_on m (P.DoRevoke to)).first.bits 0)
     where
-      g : (p : ℕ) → p < 64 → RowInv t m.now (pass_row (P.DoRevoke to) p (R p)).peer (O p) (H p)
+      g : (p : ℕ) → p < capacity → Tied t m.now (pass_row (P.DoRevoke to) p (R p)).peer (O p) (H p)
       g p h = do-revoke-row t m.now (named to p) (R p) (O p) (H p) (i.rows p h)
 
       go : (b : Bool) → Inv (with_peers m (pass_on m (P.DoRevoke to)).peers)
@@ -220,8 +164,7 @@ module _ (m : Manager) (j : Journal) (i : Inv m j) where
   clear-held-inv =
       relined (pass_on m P.ClearHeld).peers ys (passed_length m P.ClearHeld ∙ i.sized) refl (tt, tt)
       (λ p h. moved t m.now {r = row_at (pass_on m P.ClearHeld).peers p} refl (still_open p) (last-append p 0 no_line j.log ys ∙ gone p)
-      (passed-at m P.ClearHeld p (in_rows p h) (λ r. RowInv t m.now r (O p) out) (λ y. clear-held-row t m.now (R p) (O p) (H p) (i.rows p h)) (λ n. bare p h n)))
-      (passed-others P.ClearHeld)
+      (passed-at m P.ClearHeld p (λ r. Tied t m.now r (O p) out) (λ y. clear-held-row t m.now (R p) (O p) (H p) (i.rows p h)) (λ n. bare p h n) (no-past p h)))
     where
       ys : List LogLine
       ys = log-line m.active_num A.LeaseCleared m.now m.clock ∷ []
@@ -233,28 +176,23 @@ module _ (m : Manager) (j : Journal) (i : Inv m j) where
       still_open p = open-append p j.log ys ∙ omega arith
 
       -- the row of an id that is no peer is empty already
-      bare : (p : ℕ) → p < 64 → is_peer m.population m.me p ≡ false → RowInv t m.now (R p) (O p) out
-      bare p h n = let k = subst (λ r. RowInv t m.now r (O p) (H p)) (i.others-empty p h n) (i.rows p h) in
-          subst (λ r. RowInv t m.now r (O p) out) (sym (i.others-empty p h n)) (tt, tt, k.2, tt)
+      bare : (p : ℕ) → p < capacity → is_peer m.population m.me p ≡ false → Tied t m.now (R p) (O p) out
+      bare p h n = let k = subst (λ r. Tied t m.now r (O p) (H p)) (no-peer-empty m v p h n) (i.rows p h) in
+          subst (λ r. Tied t m.now r (O p) out) (sym (no-peer-empty m v p h n)) (k.0, tt)
 
   -- ---- about one peer
-
-  pub peer-of : (q : ℕ) → peer_refusal m.population m.me q ≡ Ok tt → (q < m.population) × (q ≢ m.me)
-  peer-of q a = (peer-below m.population m.me q a, eqb-false q m.me (peer-other m.population m.me q a))
-
-  -- an id that is no peer is not q
-  no-peer-other : (p q : ℕ) → q < m.population → q ≢ m.me → is_peer m.population m.me p ≡ false → p ≢ q
-  no-peer-other p q l n a k = clash (is_peer m.population m.me p) (rw (k, lt-ltb q m.population l, ne_eqb q m.me n)) a
 
   peer-inv : (q : ℕ) (w : PeerNotice) → peer_refusal m.population m.me q ≡ Ok tt
       → Inv (on_peer m q w).manager (longer j (stamped m.now m.clock (lines_under m.active_num (actions_of (on_peer m q w).actions))))
   unfolding on_peer
   peer-inv q w a =
       relined (set m.peers q st.peer) ys (length-set m.peers q st.peer ∙ i.sized) (top-lined m.active_num m.now m.clock ds)
-      (within-own m.active_num m.now m.clock q m.population (peer-of q a).0 ds about)
+      (within-own m.active_num m.now m.clock q m.population known.0 ds about)
       (λ p h. go p h (sameb q p))
-      (λ p h n. get_or-set_other m.peers q p st.peer empty_row (no-peer-other p q (peer-of q a).0 (peer-of q a).1 n) ∙ i.others-empty p h n)
     where
+      known : (q < m.population) × (q ≢ m.me)
+      known = peer-of m.population m.me q a
+
       st : Handled
       st = handled_at m q w
 
@@ -270,25 +208,20 @@ module _ (m : Manager) (j : Journal) (i : Inv m j) where
       last-here : (p : ℕ) → last_held p (j.log ++ ys) ≡ last_from p m.active_num.0 (H p) ys
       last-here p = last-append p 0 no_line j.log ys ∙ ap (λ x. last_from p x (H p) ys) i.top
 
-      lq : q < 64
-      lq = let x = (peer-of q a).0 in let y = i.limits.few in omega arith
+      lq : q < capacity
+      lq = let x = known.0 in let y = few-of m v in omega arith
 
-      lo : 100000000 ≤ t
-      lo = i.limits.low
+      guard-alone : (not (present (R q).guard_sent) || not (granted (R q).promise_sent)) ≡ true
+      guard-alone = sent-apart m.now (R q) (peer-valid m v q lq (rw (lt-ltb q m.population known.0, ne_eqb q m.me known.1)))
 
-      hi : t ≤ 10000000000
-      hi = i.limits.high
-
-      at-q : RowInv t m.now (row_at (set m.peers q st.peer) q) (open_lines q (j.log ++ ys)) (last_held q (j.log ++ ys))
+      at-q : Tied t m.now (row_at (set m.peers q st.peer) q) (open_lines q (j.log ++ ys)) (last_held q (j.log ++ ys))
       at-q = moved t m.now (get_or-set_same m.peers q st.peer empty_row (in_rows q lq))
           (open-append q j.log ys ∙ rw (ended-own m.active_num m.now m.clock q ds about, open_own m.active_num m.now m.clock q ds about))
           (last-here q ∙ last-own m.active_num m.now m.clock q ds about (H q))
-          (peer-notice-row t m.now m.clock q (above_zero m.clock t i.clock-valid lo (omega arith)) (omega (arith, at-most-hundredfold m.clock t i.clock-valid (omega arith)))
-          (above_zero m.clock (2 * t) i.clock-valid (omega arith) (omega arith)) (omega (arith, at-most-hundredfold m.clock (2 * t) i.clock-valid (omega arith)))
-          w (R q) (O q) (H q) (i.rows q lq))
+          (peer-notice-row t m.now m.clock q w (R q) (O q) (H q) guard-alone (i.rows q lq))
 
-      go : (p : ℕ) → p < 64 → Same q p → RowInv t m.now (row_at (set m.peers q st.peer) p) (open_lines p (j.log ++ ys)) (last_held p (j.log ++ ys))
-      go p h (same x k) = subst (λ y. RowInv t m.now (row_at (set m.peers q st.peer) y) (open_lines y (j.log ++ ys)) (last_held y (j.log ++ ys))) k at-q
+      go : (p : ℕ) → p < capacity → Same q p → Tied t m.now (row_at (set m.peers q st.peer) p) (open_lines p (j.log ++ ys)) (last_held p (j.log ++ ys))
+      go p h (same x k) = subst (λ y. Tied t m.now (row_at (set m.peers q st.peer) y) (open_lines y (j.log ++ ys)) (last_held y (j.log ++ ys))) k at-q
       go p h (apart x k) = moved t m.now (get_or-set_other m.peers q p st.peer empty_row (λ z. k (sym z)))
           (open-append p j.log ys ∙ rw (ended-other m.active_num m.now m.clock q p k ds about, open-other m.active_num m.now m.clock q p k ds about) (omega arith))
           (last-here p ∙ last-other m.active_num m.now m.clock q p k ds about (H p)) (i.rows p h)
@@ -308,17 +241,14 @@ module _ (m : Manager) (j : Journal) (i : Inv m j) where
   unfolding raised_to
   raised-inv num l = record {
     sized = passed_length m P.HigherNumber ∙ i.sized;
-    limits = i.limits;
-    clock-valid = i.clock-valid;
     same-now = i.same-now;
     same-clock = i.same-clock;
     quiet_ok = i.quiet_ok;
     top = top-append 0 j.log ys;
     within = within-append m.population j.log ys i.within (tt, tt);
     rows = λ p h. moved t m.now {r = row_at (pass_on m P.HigherNumber).peers p} refl (open-append p j.log ys) (last-append p 0 no_line j.log ys ∙ gone p)
-        (passed-at m P.HigherNumber p (in_rows p h) (λ r. RowInv t m.now r 0 out) (λ y. higher-number-row t m.now (R p))
-        (λ n. subst (λ r. RowInv t m.now r 0 out) (sym (i.others-empty p h n)) (tt, tt, refl, tt)));
-    others-empty = passed-others P.HigherNumber;
+        (passed-at m P.HigherNumber p (λ r. Tied t m.now r 0 out) (λ y. higher-number-row t m.now (R p))
+        (λ n. subst (λ r. Tied t m.now r 0 out) (sym (no-peer-empty m v p h n)) (refl, tt)) (no-past p h));
   }
     where
       ys : List LogLine
@@ -334,15 +264,12 @@ module _ (m : Manager) (j : Journal) (i : Inv m j) where
       → Inv m (longer j (log-line num (A.SendLeaseMsg q (M.RevokeReply false)) m.now m.clock ∷ []))
   old-reply num q l k = record {
     sized = i.sized;
-    limits = i.limits;
-    clock-valid = i.clock-valid;
     same-now = i.same-now;
     same-clock = i.same-clock;
     quiet_ok = i.quiet_ok;
     top = top-append 0 j.log ys ∙ i.top;
     within = within-append m.population j.log ys i.within (k, tt);
     rows = λ p h. moved t m.now {r = R p} refl (open-append p j.log ys ∙ none p (eqb q p)) (last-append p 0 no_line j.log ys ∙ skipped p) (i.rows p h);
-    others-empty = i.others-empty;
   }
     where
       ys : List LogLine
@@ -364,7 +291,7 @@ module _ (m : Manager) (j : Journal) (i : Inv m j) where
   outdated-inv num (N.RecvLeaseMsg q M.GuardReply) l a = silent i
   outdated-inv num (N.RecvLeaseMsg q M.Promise) l a = silent i
   outdated-inv num (N.RecvLeaseMsg q (M.PromiseReply held)) l a = silent i
-  outdated-inv num (N.RecvLeaseMsg q M.Revoke) l a = old-reply num q l (peer-of q a).0
+  outdated-inv num (N.RecvLeaseMsg q M.Revoke) l a = old-reply num q l (peer-of m.population m.me q a).0
   outdated-inv num (N.RecvLeaseMsg q (M.RevokeReply held)) l a = silent i
   outdated-inv num (N.GrantTimeout q) l a = silent i
   outdated-inv num (N.LeaseTimeout q) l a = silent i
@@ -375,10 +302,10 @@ raised-refusal : (m : Manager) (num : LeaseNum) (x : LeaseNotice) → notice_ref
 unfolding raised_to
 raised-refusal m num x = refl
 
-pub notice-inv : (m : Manager) (j : Journal) → Inv m j → (num : LeaseNum) (x : LeaseNotice) → notice_refusal m.population m.me x ≡ Ok tt
+pub notice-inv : (m : Manager) (j : Journal) → Inv m j → record_valid m ≡ true → (num : LeaseNum) (x : LeaseNotice) → notice_refusal m.population m.me x ≡ Ok tt
     → Inv (accepted_of m num x).manager (longer j (stamped m.now m.clock (lines_of (accepted_of m num x).lines)))
 unfolding accepted_of raised_to
-notice-inv m j i num x a = go (belowb num.0 m.active_num.0) (belowb m.active_num.0 num.0)
+notice-inv m j i v num x a = go (belowb num.0 m.active_num.0) (belowb m.active_num.0 num.0)
   where
     hl : LogLine
     hl = log-line num A.HigherNumber m.now m.clock
@@ -391,88 +318,63 @@ notice-inv m j i num x a = go (belowb num.0 m.active_num.0) (belowb m.active_num
         → Inv (handle_notice (raised_to m num) x).manager (longer j (hl ∷ stamped m.now m.clock (lines_under num (actions_of (handle_notice (raised_to m num) x).actions))))
     up l = subst (λ z. Inv (handle_notice (raised_to m num) x).manager (record { now = j.now; clock = j.clock; quiet = j.quiet; log = z }))
         (append_assoc j.log (hl ∷ []) (stamped m.now m.clock (lines_under num (actions_of (handle_notice (raised_to m num) x).actions))))
-        (handle-notice-inv (raised_to m num) (longer j (hl ∷ [])) (raised-inv m j i num l) x (raised-refusal m num x ∙ a))
+        (handle-notice-inv (raised_to m num) (longer j (hl ∷ [])) (raised-inv m j i v num l) (raised-valid m num v) x (raised-refusal m num x ∙ a))
 
     go : Below num.0 m.active_num.0 → Below m.active_num.0 num.0
         → Inv (accepted_of m num x).manager (longer j (stamped m.now m.clock (lines_of (accepted_of m num x).lines)))
-    go (below p l) k = rw p (as-list m (numbered-same num (outdated x)) (outdated-inv m j i num x l a))
+    go (below p l) k = rw p (as-list m (numbered-same num (outdated x)) (outdated-inv m j i v num x l a))
     go (above p l) (below q k) = rw (p, q) (as-list (handle_notice (raised_to m num) x).manager (numbered-higher num (handle_notice (raised_to m num) x).actions) (up k))
     go (above p l) (above q k) =
         rw (p, q) (as-list (handle_notice m x).manager (numbered-same num (handle_notice m x).actions)
-        (subst (λ z. Inv (handle_notice m x).manager (longer j (stamped m.now m.clock (lines_under z (actions_of (handle_notice m x).actions))))) same-num (handle-notice-inv m j i x a)))
+        (subst (λ z. Inv (handle_notice m x).manager (longer j (stamped m.now m.clock (lines_under z (actions_of (handle_notice m x).actions))))) same-num (handle-notice-inv m j i v x a)))
       where
         same-num : m.active_num ≡ num
         same-num = let e : m.active_num.0 ≡ num.0 = omega arith in ap (λ (z : ℕ). record { 0 = z }) e
 
 -- ---- the outer calls
 
-quiet-moves : (t : ℕ) (now next : Reading) (q : Option Reading) (k : QuietStart) → now.0 ≤ next.0 → QuietOk t now q k → QuietOk t next (quiet_at next q) k
+quiet-moves : (t : ℕ) (now next : Reading) (q : Option Reading) (k : QuietStart) → now.0 ≤ next.0 → QuietTied t now q k → QuietTied t next (quiet_at next q) k
 quiet-moves t now next None never l h = tt
 quiet-moves t now next None (since r c) l h = omega arith
 quiet-moves t now next (Some d) never l h = absurd h
 quiet-moves t now next (Some d) (since r c) l h = go (lebb d.0 next.0)
   where
-    go : AtMost d.0 next.0 → QuietOk t next (quiet_at next (Some d)) (since r c)
+    go : AtMost d.0 next.0 → QuietTied t next (quiet_at next (Some d)) (since r c)
     go (at_most q k) = rw q (omega arith)
-    go (Base.beyond q k) = rw q (omega arith)
+    go (beyond q k) = rw q h
 
-pub advance-inv : (m : Manager) (j : Journal) → Inv m j → (to : Reading) → m.now.0 ≤ to.0 → to.0 ≤ max_reading
+pub advance-inv : (m : Manager) (j : Journal) → Inv m j → record_valid m ≡ true → (to : Reading) → m.now.0 ≤ to.0
     → Inv (advance_to m to).manager (record { now = to; clock = j.clock; quiet = j.quiet; log = j.log })
 unfolding advance_to
-advance-inv m j i to l h = record {
+advance-inv m j i v to l = record {
   sized = passed_length m (P.Advance to) ∙ i.sized;
-  limits = record { low = i.limits.low; high = i.limits.high; some = i.limits.some; few = i.limits.few; own = i.limits.own; reading = h };
-  clock-valid = i.clock-valid;
   same-now = refl;
   same-clock = i.same-clock;
   quiet_ok = quiet-moves m.expire_timeout m.now to m.quiet_timer j.quiet l i.quiet_ok;
   top = i.top;
   within = i.within;
-  rows = λ p h. passed-at m (P.Advance to) p (in_rows m j i p h) (λ r. RowInv m.expire_timeout to r (open_lines p j.log) (last_held p j.log))
-      (λ y. advance-row m.expire_timeout m.now to l (row_at m.peers p) (open_lines p j.log) (last_held p j.log) (i.rows p h))
-      (λ n. let k = subst (λ r. RowInv m.expire_timeout m.now r (open_lines p j.log) (last_held p j.log)) (i.others-empty p h n) (i.rows p h) in
-      subst (λ r. RowInv m.expire_timeout to r (open_lines p j.log) (last_held p j.log)) (sym (i.others-empty p h n)) (advance-row m.expire_timeout m.now to l empty_row (open_lines p j.log) (last_held p j.log) k));
-  others-empty = passed-others m j i (P.Advance to);
+  rows = λ p h. passed-at m (P.Advance to) p (λ r. Tied m.expire_timeout to r (open_lines p j.log) (last_held p j.log))
+      (λ y. later p h (row_at m.peers p) (i.rows p h))
+      (λ n. subst (λ r. Tied m.expire_timeout to r (open_lines p j.log) (last_held p j.log)) (sym (no-peer-empty m v p h n))
+      (later p h empty_row (subst (λ r. Tied m.expire_timeout m.now r (open_lines p j.log) (last_held p j.log)) (no-peer-empty m v p h n) (i.rows p h))))
+      (no-past m j i v p h);
 }
+  where
+    later : (p : ℕ) → p < capacity → (row : Peer) → Tied m.expire_timeout m.now row (open_lines p j.log) (last_held p j.log)
+        → Tied m.expire_timeout to (advance_row to row).peer (open_lines p j.log) (last_held p j.log)
+    later p h row k = advance-row m.expire_timeout m.now to l row (open_lines p j.log) (last_held p j.log) k
 
 pub quiet-inv : (m : Manager) (j : Journal) → Inv m j → Inv (assume_unknown_grants m) (record { now = j.now; clock = j.clock; quiet = since j.now j.clock; log = j.log })
 unfolding assume_unknown_grants
-quiet-inv m j i = record {
-  sized = i.sized;
-  limits = i.limits;
-  clock-valid = i.clock-valid;
-  same-now = i.same-now;
-  same-clock = i.same-clock;
-  quiet_ok =
-      let p = above_zero m.clock (2 * m.expire_timeout) i.clock-valid (let x = i.limits.low in omega arith) (let x = i.limits.high in omega arith) in
-      let b = at-most-hundredfold m.clock (2 * m.expire_timeout) i.clock-valid (let x = i.limits.high in omega arith) in
-      let x = i.limits.high in
-      (rw (i.same-now, i.same-clock), omega arith, omega arith);
-  top = i.top;
-  within = i.within;
-  rows = i.rows;
-  others-empty = i.others-empty;
-}
+quiet-inv m j i =
+    record { sized = i.sized; same-now = i.same-now; same-clock = i.same-clock; quiet_ok = rw (i.same-now, i.same-clock); top = i.top; within = i.within; rows = i.rows }
 
-pub drift-inv : (m : Manager) (j : Journal) → Inv m j → (x : Option ℤ) → Typed (drift x) → Inv (set_drift m x) (record { now = j.now; clock = clock_of x; quiet = j.quiet; log = j.log })
+pub drift-inv : (m : Manager) (j : Journal) → Inv m j → (x : Option ℤ) → Inv (set_drift m x) (record { now = j.now; clock = clock_of x; quiet = j.quiet; log = j.log })
 unfolding set_drift
-drift-inv m j i x f = record {
-  sized = i.sized;
-  limits = i.limits;
-  clock-valid = setting-valid x f;
-  same-now = i.same-now;
-  same-clock = refl;
-  quiet_ok = i.quiet_ok;
-  top = i.top;
-  within = i.within;
-  rows = i.rows;
-  others-empty = i.others-empty;
-}
+drift-inv m j i x = record { sized = i.sized; same-now = i.same-now; same-clock = refl; quiet_ok = i.quiet_ok; top = i.top; within = i.within; rows = i.rows }
 
-pub refresh-inv : (m : Manager) (j : Journal) → Inv m j → (set : Option Bitmap) → Inv (attempt_refresh m set).manager j
+pub refresh-inv : (m : Manager) (j : Journal) → Inv m j → record_valid m ≡ true → (set : Option Bitmap) → Inv (attempt_refresh m set).manager j
 unfolding attempt_refresh
-refresh-inv m j i set =
-    passed-silent m j i (refresh_pass m set)
-    (λ p h. refresh-row m.expire_timeout m.now (drifted m.clock m.expire_timeout) (named set p)
-    (let x = i.limits.high in omega (arith, at-most-hundredfold m.clock m.expire_timeout i.clock-valid (omega arith)))
-    (row_at m.peers p) (open_lines p j.log) (last_held p j.log) (i.rows p h))
+refresh-inv m j i v set =
+    passed-silent m j i v (refresh_pass m set)
+    (λ p h. refresh-row m.expire_timeout m.now (drifted m.clock m.expire_timeout) (named set p) (row_at m.peers p) (open_lines p j.log) (last_held p j.log) (i.rows p h))

@@ -1,8 +1,9 @@
-pub mod Base
+pub mod Sums
 pub mod LogFacts
 pub mod RowFacts
 pub mod Invariant
-pub mod Demand3
+pub mod LogTheorem
 pub mod Counts
 pub mod Program
 pub mod Edges
+pub mod WrongManagers

@@ -8,9 +8,8 @@ use native.Mathlib.Nat.{le_refl}
 use native.Mathlib.Omega.{arith}
 use lib.Dec.{eqb}
 use borrow.Author.Tests.{eqb-true, eq-eqb, ne_eqb, le-ltb}
-use Rattle.bitmap.specs.Sets.{one}
-use Rattle.drift.specs.declared.Clock.{Clock}
-use Rattle.timer.specs.declared.Reading.{Reading}
+use Rattle.lease.specs.Sets.{one}
+use Rattle.lease.specs.Types.{Clock, Reading}
 use Rattle.lease.specs.declared.LeaseNum.{LeaseNum}
 use Rattle.lease.specs.declared.LeaseAction.{LeaseAction}
 use Rattle.lease.specs.declared.Line.{Line}
@@ -20,7 +19,8 @@ use Rattle.lease.specs.declared.Actions.TheVariants as AS
 use Rattle.lease.specs.Notices.{line, numbered}
 use Rattle.lease.specs.Verdicts.{lines_of}
 use Rattle.lease_log.specs.Log.{LogLine, log-line, stamped, concerns, says_promise, is_promise, is_end, ended_in, open_lines, promise_lines, ended_lines, Last, held_after, held_by, top_after, top_of, last_from}
-use Rattle.lease_log.proofs.Base.{Same, same, apart, sameb, sum_below, sum_below-cong, sum_below-add, sum_below-zero, sum_below-one}
+use Rattle.reachable.proofs.Numbers.{Same, same, apart, sameb}
+use Rattle.lease_log.proofs.Sums.{sum_below, sum_below-cong, sum_below-add, sum_below-zero, sum_below-one}
 
 -- ---- lines at the end
 

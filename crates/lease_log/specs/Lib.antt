@@ -1,5 +1,7 @@
+-- The log of the rules' actions, what it decides, and the log theorem.
 pub mod Log
-pub mod Demand3
+pub mod LogTheorem
 pub mod Counts
 pub mod Program
 pub mod Edges
+pub mod WrongManagers

@@ -1,10 +1,9 @@
--- Document 01, "What the log decides": the log of the rules' actions over a list of calls, and what it says. Definitions only.
+-- The log of the rules' actions over a list of calls, and what it says (rules 11.1 to 11.4). Definitions only.
 use Rattle.std.specs.Prelude.{List, [], ◌∷◌, ◌++◌, Bool, true, false, not, cond, ◌&&◌, ◌||◌, ℕ, ◌+◌, ◌*◌, leb, ltb, eqb}
-use Rattle.bitmap.specs.Sets.{one}
-use Rattle.drift.specs.declared.Clock.{Clock}
-use Rattle.drift.specs.declared.Clock.TheVariants as K
-use Rattle.timer.specs.declared.Reading.{Reading}
-use Rattle.timer.specs.Timers.{drifted}
+use Rattle.lease.specs.Sets.{one}
+use Rattle.lease.specs.Types.{Clock, Reading}
+use Rattle.lease.specs.ClockCases as K
+use Rattle.lease.specs.Timers.{drifted}
 use Rattle.lease.specs.declared.LeaseNum.{LeaseNum}
 use Rattle.lease.specs.declared.LeaseMsg.{LeaseMsg}
 use Rattle.lease.specs.declared.LeaseMsg.TheVariants as M
@@ -17,10 +16,11 @@ use Rattle.lease.specs.Verdicts.{Call, notice, advance, quiet-start, refresh, dr
 
 -- ---- the log
 
--- A line of an accepted notice: its number and action, with the reading and the clock of that moment.
+-- A line of the log (rule 11.1): the number and the action of a line of an accepted notice, with the reading and the clock of that moment.
 pub data LogLine : Type 0 where
   log-line : LeaseNum → LeaseAction → Reading → Clock → LogLine
 
+-- The lines of a notice as lines of the log.
 abbrev pub stamped : Reading → Clock → List Line → List LogLine
 stamped r c [] = []
 stamped r c (x ∷ l) = log-line x.0 x.1 r c ∷ stamped r c l
@@ -37,8 +37,9 @@ concerns (A.LeaseTimeout q) p = eqb q p
 concerns A.HigherNumber p = true
 concerns (A.GuardAcceptBar q bar) p = eqb q p
 
--- ---- the grant side
+-- ---- Promise lines and what ends them (rule 11.2)
 
+-- Is it Promise?
 abbrev pub says_promise : LeaseMsg → Bool
 says_promise (M.Guard bar) = false
 says_promise M.GuardReply = false
@@ -47,7 +48,7 @@ says_promise (M.PromiseReply held) = false
 says_promise M.Revoke = false
 says_promise (M.RevokeReply held) = false
 
--- A Promise line: the message Promise, sent to a peer.
+-- A Promise line is the message Promise, sent to a peer.
 abbrev pub is_promise : LeaseAction → Bool
 is_promise (A.SendLeaseMsg q msg) = says_promise msg
 is_promise (A.BcastLeaseMsgs set msg) = false
@@ -59,7 +60,7 @@ is_promise (A.LeaseTimeout q) = false
 is_promise A.HigherNumber = false
 is_promise (A.GuardAcceptBar q bar) = false
 
--- It is ended by GrantRemoved or GrantTimeout for that peer, or HigherNumber.
+-- GrantRemoved or GrantTimeout for that peer ends it, and so does HigherNumber.
 abbrev pub is_end : LeaseAction → Bool
 is_end (A.SendLeaseMsg q msg) = false
 is_end (A.BcastLeaseMsgs set msg) = false
@@ -85,11 +86,12 @@ open_lines p (log-line n a r c ∷ l) = one ((concerns a p && is_promise a) && n
 abbrev pub is_open : List LogLine → ℕ → Bool
 is_open l p = leb 1 (open_lines p l)
 
--- Promise lines, and ended ones, of all peers.
+-- How many Promise lines there are, of all peers, and how many of them are ended.
 abbrev pub promise_lines : List LogLine → ℕ
 promise_lines [] = 0
 promise_lines (log-line n a r c ∷ l) = one (is_promise a) + promise_lines l
 
+-- Is it a Promise line that a line after it ends?
 abbrev pub is_ended : LeaseAction → List LogLine → Bool
 is_ended (A.SendLeaseMsg q msg) l = says_promise msg && ended_in q l
 is_ended (A.BcastLeaseMsgs set msg) l = false
@@ -105,7 +107,7 @@ abbrev pub ended_lines : List LogLine → ℕ
 ended_lines [] = 0
 ended_lines (log-line n a r c ∷ l) = one (is_ended a l) + ended_lines l
 
--- ---- the held side
+-- ---- in and out on the held side (rule 11.3)
 
 -- A peer's last held-side line: none yet, an "in" line with its reading and clock, an "out" line.
 pub data Last : Type 0 where
@@ -113,7 +115,7 @@ pub data Last : Type 0 where
   in-at : Reading → Clock → Last
   out : Last
 
--- In by PromiseReply{held:true}, out by RevokeReply, LeaseTimeout, LeaseCleared or HigherNumber.
+-- PromiseReply{held:true} is an "in" line; RevokeReply, LeaseTimeout, LeaseCleared and HigherNumber are "out" lines.
 abbrev pub after_msg : Reading → Clock → LeaseMsg → Last → Last
 after_msg r c (M.Guard bar) h = h
 after_msg r c M.GuardReply h = h
@@ -123,6 +125,7 @@ after_msg r c (M.PromiseReply false) h = h
 after_msg r c M.Revoke h = h
 after_msg r c (M.RevokeReply held) h = out
 
+-- The last held-side line of the peer that an action is about, after it.
 abbrev pub held_after : Reading → Clock → LeaseAction → Last → Last
 held_after r c (A.SendLeaseMsg q msg) h = after_msg r c msg h
 held_after r c (A.BcastLeaseMsgs set msg) h = h
@@ -134,7 +137,7 @@ held_after r c (A.LeaseTimeout q) h = out
 held_after r c A.HigherNumber h = out
 held_after r c (A.GuardAcceptBar q bar) h = h
 
--- The number of the last HigherNumber.
+-- The number of the last HigherNumber, 0 before one.
 abbrev pub top_after : ℕ → LeaseAction → ℕ → ℕ
 top_after n (A.SendLeaseMsg q msg) top = top
 top_after n (A.BcastLeaseMsgs set msg) top = top
@@ -146,6 +149,7 @@ top_after n (A.LeaseTimeout q) top = top
 top_after n A.HigherNumber top = n
 top_after n (A.GuardAcceptBar q bar) top = top
 
+-- The same over the lines that follow.
 abbrev pub top_of : ℕ → List LogLine → ℕ
 top_of top [] = top
 top_of top (log-line n a r c ∷ l) = top_of (top_after n.0 a top) l
@@ -154,6 +158,7 @@ top_of top (log-line n a r c ∷ l) = top_of (top_after n.0 a top) l
 abbrev pub held_by : ℕ → ℕ → LogLine → Last → Last
 held_by p top (log-line n a r c) h = cond (ltb n.0 top) h (cond (concerns a p) (held_after r c a h) h)
 
+-- p's last held-side line after more lines, and after all of the log.
 abbrev pub last_from : ℕ → ℕ → Last → List LogLine → Last
 last_from p top h [] = h
 last_from p top h (log-line n a r c ∷ l) = last_from p (top_after n.0 a top) (held_by p top (log-line n a r c) h) l
@@ -163,7 +168,7 @@ last_held p l = last_from p 0 no_line l
 
 -- ---- the journal: the log, and what else of the accepted calls decides
 
--- The reading and the clock at the last quiet start.
+-- The last quiet start, with its reading and clock (rule 11.4).
 pub data QuietStart : Type 0 where
   never : QuietStart
   since : Reading → Clock → QuietStart
@@ -174,11 +179,11 @@ pub record Journal : Type 0 where
   pub quiet : QuietStart
   pub log : List LogLine
 
--- At an accepted set-up.
+-- The journal at an accepted set-up.
 abbrev pub journal_at : Reading → Journal
 journal_at now = record { now = now; clock = K.True; quiet = never; log = [] }
 
--- What an accepted call adds. An advance adds no line: the quiet-end line is left out by where it comes from.
+-- The journal after an accepted call with these lines. An advance adds no line: the quiet-end line is left out by where it comes from.
 abbrev pub noted : Journal → Call → List Line → Journal
 noted j (notice num x) l = record { now = j.now; clock = j.clock; quiet = j.quiet; log = j.log ++ stamped j.now j.clock l }
 noted j (advance to) l = record { now = to; clock = j.clock; quiet = j.quiet; log = j.log }
@@ -190,24 +195,26 @@ noted j lease-set l = j
 noted j lease-cnt l = j
 noted j (time-left id) l = j
 
--- ---- the rules over a list of calls, on a record of their own
+-- ---- the rules over a list of calls
 
+-- A record with its journal.
 pub record Run : Type 0 where
   pub manager : Manager
   pub journal : Journal
 
--- A refused call changes nothing.
+-- The next run. A refused call changes nothing.
 abbrev pub stepped : Run → Call → Verdict → Run
 stepped r c (refused k) = r
 stepped r c (done l m) = record { manager = m; journal = noted r.journal c l }
 
+-- The run that a list of calls leads to.
 abbrev pub run_from : Run → List Call → Run
 run_from r [] = r
 run_from r (c ∷ l) = run_from (stepped r c (verdict r.manager c)) l
 
 -- ---- what the journal says, where T is t
 
--- It is quiet time while now is below the reading at the last quiet start plus (2T drifted by the setting then); before one, never.
+-- It is quiet time (rule 11.4) while now is below the reading at the last quiet start plus (2T drifted by the setting then); before one, never.
 abbrev pub quiet_since : ℕ → Reading → QuietStart → Bool
 quiet_since t now never = false
 quiet_since t now (since r c) = ltb now.0 (r.0 + drifted c (2 * t))
@@ -215,7 +222,7 @@ quiet_since t now (since r c) = ltb now.0 (r.0 + drifted c (2 * t))
 abbrev pub quiet_time : ℕ → Journal → Bool
 quiet_time t j = quiet_since t j.now j.quiet
 
--- A peer is in the lease set while its last held-side line is an "in" line and that line's reading plus (T drifted by that line's
+-- A peer is in the lease set (rule 11.3) while its last held-side line is an "in" line and that line's reading plus (T drifted by that line's
 -- setting) is above now.
 abbrev pub in_lease : ℕ → Reading → Last → Bool
 in_lease t now no_line = false

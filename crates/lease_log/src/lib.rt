@@ -1,2 +1,5 @@
-// Document 01's log and demand 3 are definitions and proofs alone: specs/ and proofs/.
+// The log of the rules' actions, and the log theorem (rule 11.5): definitions in specs/, claimed by
+// the functions of `laws`.
 #![tactic(auto)]
+
+pub mod laws;

@@ -1,7 +1,6 @@
-// Event cards on standard input, output lines on standard output: docs/CARDS.md. The files stdin and stdout are
-// document 02's example.
+// Event cards on standard input, output lines on standard output (section 14): docs/CARDS.md. The files stdin and stdout are the small site.
 #![tactic(auto)]
 
 fn main(rt: HostRuntime) -> anyhow::Result<()> {
-    replay_filter::run(&rt)
+    card_stream::replay::run_replay(&rt)
 }

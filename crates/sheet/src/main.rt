@@ -1,6 +1,7 @@
-// Event cards on standard input, the shift sheet on standard output: docs/SHEET.md. The files stdin and stdout are document 02's example.
+// Event cards on standard input, the shift sheet on standard output (section 15): docs/SHEET.md. The files stdin and stdout are the small
+// site.
 #![tactic(auto)]
 
 fn main(rt: HostRuntime) -> anyhow::Result<()> {
-    sheet_filter::run(&rt)
+    shift_sheet::program::run_sheet(&rt)
 }

@@ -3,5 +3,5 @@
 #![tactic(auto)]
 
 fn main(rt: HostRuntime) -> anyhow::Result<()> {
-    sheet_filter::run(&rt)
+    shift_sheet::program::run_sheet(&rt)
 }

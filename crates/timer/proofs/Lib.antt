@@ -1,2 +1,2 @@
 -- The proofs of the claims.
-pub mod Laws
+pub mod Claims

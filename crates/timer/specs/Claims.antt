@@ -1,16 +1,16 @@
--- What is claimed of the timers' definitions, for callers. Each claim is proved in proofs/Laws.antt under the same name in small letters. Statements only.
-use Rattle.std.specs.Prelude.{◌≡◌, true, false, ℕ, ◌+◌, ◌-◌, ◌*◌, ◌≤◌, T}
+-- What is claimed of the timers' definitions, for callers. Each claim is proved in proofs/Claims.antt under the same name in small letters. Statements only.
+use Rattle.std.specs.Prelude.{◌≡◌, true, false, ℕ, ◌+◌, ◌*◌, ◌≤◌, T}
 use Rattle.drift.specs.declared.Clock.{Clock}
 use Rattle.drift.specs.Clocks.{is_settable}
 use Rattle.drift.specs.Claims.{longest_in_use}
 use Rattle.timer.specs.declared.Reading.{Reading}
 use Rattle.timer.specs.declared.Timer.{Timer}
 use Rattle.timer.specs.declared.Timer.TheVariants.{Armed}
-use Rattle.timer.specs.Timers.{Near, kicked_off, extended_by, is_active, is_exploded, ms_left, expired_at}
+use Rattle.timer.specs.Timers.{Near, kicked_off, extended_by, is_active, is_exploded, ns_left, ms_left, expired_at}
 
 -- ---- arming
 
--- Under a clock that a drift setting gives, a timer kicked off for 3 ns to 20 s is active.
+-- Under a clock that a drift setting gives (rule 3.7), a timer kicked off for 3 ns to 20 s is active.
 abbrev pub KickedOffActive : Type 0
 KickedOffActive = (clock : Clock) (now : Reading) (ns : ℕ) → T (is_settable clock) → 3 ≤ ns → ns ≤ longest_in_use → is_active now (kicked_off clock now ns) ≡ true
 
@@ -46,17 +46,19 @@ ExpiredAgain = (now : Reading) (timer : Timer) → expired_at now (expired_at no
 abbrev pub ZeroWhenOver : Type 0
 ZeroWhenOver = (now : Reading) (timer : Timer) → (is_active now timer ≡ false → ms_left now timer ≡ 0) × (ms_left now timer ≡ 0 → is_active now timer ≡ false)
 
--- Of an armed timer it is the least number of ms that is not less than what is left.
+-- So many ms are the least that are not less than so many ns.
+pub record RoundsUp (ns ms : ℕ) : Type 0 where
+  pub enough : ns ≤ ms * 1_000_000
+  pub least : (fewer : ℕ) → ns ≤ fewer * 1_000_000 → ms ≤ fewer
+
+-- Time left is rounded up.
 abbrev pub LeftRoundedUp : Type 0
-LeftRoundedUp =
-    (now deadline : Reading)
-    → (deadline.0 - now.0 ≤ ms_left now (Armed deadline) * 1_000_000)
-    × ((ms : ℕ) → deadline.0 - now.0 ≤ ms * 1_000_000 → ms_left now (Armed deadline) ≤ ms)
+LeftRoundedUp = (now : Reading) (timer : Timer) → RoundsUp (ns_left now timer) (ms_left now timer)
 
 -- Time left of a timer that runs out so many ns from now.
 abbrev pub left_with : Reading → ℕ → ℕ
 left_with now ns = ms_left now (Armed (record { 0 = now.0 + ns }))
 
--- Document 02's examples, at every reading.
+-- Examples, at every reading: 0.4 ms and 1 ms are 1 ms, and one ns more is 2 ms.
 abbrev pub LeftExamples : Type 0
 LeftExamples = (now : Reading) → (left_with now 400_000 ≡ 1) × (left_with now 1_000_000 ≡ 1) × (left_with now 1_000_001 ≡ 2)

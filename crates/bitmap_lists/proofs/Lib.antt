@@ -1,2 +1,0 @@
--- The laws of lists of ids, beside the functions' proofs.
-pub mod Lists

@@ -1,2 +1,0 @@
--- What the pass over the ids takes and chooses.
-pub mod Tests

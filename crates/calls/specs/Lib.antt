@@ -1,3 +1,0 @@
--- What a refresh asks, and what a call answers.
-pub mod Fits
-pub mod Answers

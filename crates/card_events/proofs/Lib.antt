@@ -1,2 +1,0 @@
--- The two claims on cards as numbers, proved.
-pub mod Laws

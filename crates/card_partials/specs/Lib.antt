@@ -1,2 +1,0 @@
--- The line so far.
-pub mod Partials

@@ -1,2 +1,0 @@
--- What is claimed of cards one after the other, proved.
-pub mod Laws

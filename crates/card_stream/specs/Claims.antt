@@ -1,0 +1,35 @@
+-- What is claimed of cards one after the other, and of reading and printing in pieces (rule 14.5). Each claim is a clause of a function of
+-- src/laws.rt. Statements only.
+use Rattle.std.specs.Prelude.{◌≡◌, Result, Err, List, [], ◌∷◌, ◌++◌, ℕ}
+use Rattle.wire.specs.declared.events.Event.{Event}
+use Rattle.wire.specs.declared.events.CardRefusal.{CardRefusal}
+use Rattle.card_stream.specs.declared.session.Session.{Session}
+use Rattle.card_stream.specs.Sessions.{counted, card_given}
+use Rattle.card_stream.specs.declared.reader.CardReader.{CardReader}
+use Rattle.card_stream.specs.Reader.{session_of, blank_reader, chunk_next, chunks_next}
+use Rattle.card_stream.specs.Feed.{replay_text, feed_text, chunks_text}
+
+-- A refused card is counted, and changes nothing else (rule 10.31).
+abbrev pub RefusedCardKeeps : Type 0
+RefusedCardKeeps = (s : Session) (read : Result Event CardRefusal) (k : CardRefusal) → (card_given s read).outcome ≡ Err k → (card_given s read).session ≡ counted s
+
+-- The bytes of the chunks, one after the other.
+abbrev pub joined : List (List ℕ) → List ℕ
+joined [] = []
+joined (c ∷ cs) = c ++ joined cs
+
+-- Where a chunk ends changes nothing in what is read.
+abbrev pub ReadInChunks : Type 0
+ReadInChunks = (r : CardReader) (a b : List ℕ) → chunk_next r (a ++ b) ≡ chunk_next (chunk_next r a) b
+
+-- Whatever the chunks are, the session that they leave is the one that the whole input leaves.
+abbrev pub SessionOfWhole : Type 0
+SessionOfWhole = (chunks : List (List ℕ)) → (chunks_next blank_reader chunks).session ≡ session_of (joined chunks)
+
+-- Where a chunk ends changes nothing in what is printed.
+abbrev pub PrintedInChunks : Type 0
+PrintedInChunks = (r : CardReader) (a b : List ℕ) → feed_text r (a ++ b) ≡ feed_text r a ++ feed_text (chunk_next r a) b
+
+-- Whatever the chunks are, what is printed is what the whole input prints.
+abbrev pub PrintedOfWhole : Type 0
+PrintedOfWhole = (chunks : List (List ℕ)) → chunks_text blank_reader chunks ≡ replay_text (joined chunks)

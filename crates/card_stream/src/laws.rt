@@ -1,0 +1,21 @@
+// The laws of sessions, of reading and of printing, each a claim of specs/Claims: the functions of this crate are stated by the same
+// definitions.
+
+ghost use Rattle.card_stream.specs.Claims.{RefusedCardKeeps, ReadInChunks, SessionOfWhole, PrintedInChunks, PrintedOfWhole};
+
+/// A refused card is counted, and changes nothing else in the session (rules 10.31, 14.5).
+pub fn refused_card_keeps()
+    ensures { RefusedCardKeeps }
+{}
+
+/// Where a chunk ends changes nothing: any input, read in any chunks, leaves the session that its cards leave (rule 14.5).
+pub fn chunks_read_alike()
+    ensures anywhere { ReadInChunks }
+    ensures whole { SessionOfWhole }
+{}
+
+/// Where a chunk ends changes nothing: any input, fed in any chunks, prints the lines of its cards, in their order (rules 14.4, 14.5).
+pub fn chunks_print_alike()
+    ensures anywhere { PrintedInChunks }
+    ensures whole { PrintedOfWhole }
+{}

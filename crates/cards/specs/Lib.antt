@@ -1,3 +1,0 @@
--- Event cards, and what is claimed of them.
-pub mod Cards
-pub mod Claims

@@ -1,2 +1,0 @@
-pub mod CallContracts
-pub mod Demand3

@@ -1,0 +1,89 @@
+// The float arithmetic of clock drift: the rate and the quotient of a setting, seconds and back to ns (rules 3.3 to 3.5).
+
+ghost use Rattle.std.specs.Prelude.{◌≡◌, ◌*◌, ◌^◌, ◌≤◌, ◌<◌};
+ghost use Rattle.std.specs.Float.Ieee.Nearest.{closest};
+ghost use Rattle.drift.specs.Drift.{nanos_per_sec, rate_of, quotient_at, quotient_of, seconds_of, ns_of};
+
+use std::cmp::Ordering;
+
+const NANOS_PER_SEC: u64 = 1_000_000_000;
+
+// The largest answer of a clock that drifts, 2 ^ 20 s in ns.
+const LONGEST: u64 = (1 << 20) * NANOS_PER_SEC;
+
+// 2 ^ 52: the leading digit of an f64, which its bits leave out.
+const LEADING: u64 = 1 << 52;
+
+/// The rate of a drift setting: the larger of 1 and 100 + d (rule 3.3).
+#[tactic(auto, using(crate::proofs::Rates::code_rate))]
+pub fn rate(d: i8) -> u64
+    ensures { result ≡ rate_of d }
+{
+    // By `as`, here and below: the value fits, and to a float there is no `try_from`.
+    (100 + i16::from(d)).max(1) as u64
+}
+
+/// The quotient of a rate, 100.0 / rate (rule 3.3).
+#[tactic(auto, using(crate::proofs::Literals::hundred_is), unfolding(crate::specs::Drift::ratio))]
+pub fn quotient_at(rate: u64) -> f64
+    requires { rate ≤ 1000 }
+    ensures { result ≡ quotient_at rate }
+{
+    100.0 / rate as f64
+}
+
+/// The quotient of a drift setting (rule 3.3).
+#[tactic(auto, using(crate::proofs::Rates::read_rate_le))]
+pub fn quotient(d: i8) -> f64
+    ensures { result ≡ quotient_of d }
+{
+    quotient_at(rate(d))
+}
+
+/// Seconds: whole seconds as a float, plus (the rest in ns as a float / 1e9) (rule 3.4).
+#[tactic(auto, using(crate::proofs::Literals::billion_is), unfolding(crate::specs::Drift::seconds_of))]
+pub fn in_seconds(ns: u64) -> f64
+    ensures { result ≡ seconds_of ns }
+{
+    (ns / NANOS_PER_SEC) as f64 + (ns % NANOS_PER_SEC) as f64 / 1_000_000_000.0
+}
+
+// mantissa * 10 ^ 9 / 2 ^ places, to nearest, ties to even. The product does not fit 64 bits. A shift
+// and a mask, since `/` and `%` of a `u128` take several times as long.
+#[tactic(auto, using(crate::proofs::Nearest::whole_lt))]
+fn nearest_ns(mantissa: u64, places: u64) -> u64
+    requires mantissa_bound { mantissa < 2 ^ 53 }
+    requires le_places { 33 ≤ places }
+    requires places_bound { places ≤ 95 }
+    ensures { result ≡ closest (mantissa * nanos_per_sec) (2 ^ places) }
+{
+    let product = u128::from(mantissa) * 1_000_000_000;
+    let unit = 1_u128 << places;
+    let whole = (product >> places) as u64;
+    let part = product & (unit - 1);
+    match (part * 2).cmp(&unit) {
+        Ordering::Less => whole,
+        Ordering::Equal => whole + whole % 2,
+        Ordering::Greater => whole + 1,
+    }
+}
+
+/// p seconds in ns, to nearest, ties to even (rule 3.5), at most 2 ^ 20 s. What is not above 0, a NaN too, gives 0.
+#[tactic(auto, using(crate::proofs::Pattern::low_field, crate::proofs::Pattern::mid_field, crate::proofs::Pattern::high_field, crate::proofs::Pattern::not_above))]
+pub fn in_ns(p: f64) -> u64
+    ensures { result ≡ ns_of p }
+{
+    // The field of the exponent, and the 52 digits below the leading one. A field below 980 means less than half a
+    // ns, one above 1042 at least 2 ^ 20 s.
+    if p > 0.0 {
+        let bits = p.to_bits();
+        let digits = bits % LEADING;
+        match bits / LEADING {
+            0..=979 => 0,
+            field @ 980..=1042 => nearest_ns(LEADING + digits, 1075 - field),
+            _ => LONGEST,
+        }
+    } else {
+        0
+    }
+}

@@ -1,2 +1,0 @@
--- The deadlines of all timers, as a list.
-pub mod Deadlines

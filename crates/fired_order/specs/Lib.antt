@@ -1,2 +1,0 @@
--- A list of fired timers as the code puts it together.
-pub mod Lists

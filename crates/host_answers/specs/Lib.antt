@@ -1,3 +1,0 @@
--- How answers cross to C.
-pub mod Answers
-pub mod Refusals

@@ -1,2 +1,0 @@
--- Laws of a drift setting's percent.
-pub mod Percent

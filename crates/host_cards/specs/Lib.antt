@@ -1,2 +1,0 @@
--- How calls cross from C.
-pub mod Cards

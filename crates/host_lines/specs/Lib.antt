@@ -1,2 +1,0 @@
--- How the lines of answers cross to C.
-pub mod Lines

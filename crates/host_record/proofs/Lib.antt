@@ -1,3 +1,0 @@
--- The proofs of the claims, and of what an array's `map` gives.
-pub mod Rows
-pub mod Laws

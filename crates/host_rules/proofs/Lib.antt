@@ -1,2 +1,0 @@
--- The proofs of the claims.
-pub mod Laws

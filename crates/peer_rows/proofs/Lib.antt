@@ -1,0 +1,6 @@
+-- Clearing and its examples, and the list of fired timers: a timer's place, sorting, both sides.
+pub mod ClearingClaims
+pub mod ClearingExamples
+pub mod Place
+pub mod Sorting
+pub mod Sides

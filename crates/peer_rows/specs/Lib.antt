@@ -1,0 +1,6 @@
+pub mod Fits
+pub mod Clearing
+pub mod ClearingClaims
+pub mod ClearingExamples
+pub mod Deadlines
+pub mod Lists

@@ -1,7 +1,0 @@
--- The record that the check passed has its invariant.
-use Rattle.std.proofs.Common.{sym, ◌∙◌}
-use Rattle.record_check.proofs.Laws.{fits}
-use Rattle.record_check.proofs.check_record.Goals as goal
-
-pub invariant_of-result : goal.invariant_of-result
-invariant_of-result c = record { fits = fits _ (sym c.is_valid_record.ensures ∙ c.if-is_valid_record.true) }

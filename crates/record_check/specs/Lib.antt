@@ -1,2 +1,0 @@
--- What every call on a record may rely on once the record is checked.
-pub mod Fits

@@ -1,0 +1,2 @@
+-- The claims of the lists, by computation.
+pub mod Lists

@@ -1,3 +1,0 @@
--- The shift sheet, and what is claimed of it.
-pub mod Sheet
-pub mod Claims

@@ -1,0 +1,5 @@
+-- The shift sheet, and what is claimed of it.
+pub mod Sheet
+pub mod Claims
+pub mod CardCalls
+pub mod Examples

@@ -1,0 +1,8 @@
+use Rattle.wire.proofs.CardEventsLaws.{written-is-read, read-is-written}
+use Rattle.wire.proofs.laws.cards_say_events.Goals as goal
+
+pub returns-clause-written_is_read : goal.returns-clause-written_is_read
+returns-clause-written_is_read c = written-is-read
+
+pub returns-clause-read_is_written : goal.returns-clause-read_is_written
+returns-clause-read_is_written c = read-is-written
