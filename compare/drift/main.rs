@@ -1,4 +1,4 @@
-// Compares the crate drift, through drift_c, with Rust's `Duration::mul_f64` under the rules of
+// Compares the crate drift, through leaves_c, with Rust's `Duration::mul_f64` under the rules of
 // src/utils/faults.rs, bit for bit. Prints how many cases each part has and how many differ, and
 // fails if one does. An argument sets how many random cases each part has.
 // The generator of compare/sessions.

@@ -8,7 +8,7 @@ use crate::ReplicaId;
 /// How many ids a set has room for.
 pub const CAPACITY: usize = 64;
 
-/// A set of ids below a size. As in document 01, a size is 1 to 64.
+/// A set of ids below a size, which is 1 to 64 (rule 2.1).
 ///
 /// A set of another size can be made, so that the manager is the one to judge it: it is refused
 /// with 9 in a notice and with 12 in a refresh. Such a set has no ids but those below both its size
@@ -31,7 +31,7 @@ pub struct Bitmap {
     bits: u64,
 }
 
-/// Why a set could not do what was asked, under document 01's number.
+/// Why a set could not do what was asked, under the number of its rule, 10.N.
 ///
 /// ```
 /// use biasflint::{Bitmap, BitmapError};
@@ -235,7 +235,7 @@ impl fmt::Debug for Bitmap {
 }
 
 impl BitmapError {
-    /// Document 01's number.
+    /// The number of the refusal: N of rule 10.N.
     #[must_use]
     pub const fn number(self) -> u64 {
         self as u64

@@ -1,5 +1,5 @@
 //! Calls as the cards that cross to the library, and the lines that come back as actions and sets.
-//! The codes are those of `crates/host_cards` and `crates/host_lines`.
+//! The codes are those of rules 13.2 and 13.3 (`crates/wire/src/calls.rt` and `lines.rt`).
 
 use std::time::Duration;
 
@@ -58,8 +58,8 @@ pub(crate) fn time_left(peer: ReplicaId) -> CallC {
 }
 
 // A card's size 0 is "no set", so a set of size 0 crosses as one of size 256. A card's size above
-// 255 counts as 255, which is no population and not 1 to 64: the library refuses it as document 01
-// refuses size 0, and in the same order with other refusals.
+// 255 counts as 255, which is no population and not 1 to 64: the library refuses it as the rules
+// refuse size 0, and in the same order with other refusals.
 fn with_set(card: CallC, peers: Option<&Bitmap>) -> CallC {
     let (size, first) = match peers {
         None => (0, 0),

@@ -1,10 +1,10 @@
 //! The proved lease manager of the line controllers, for a host in Rust.
 //!
 //! The manager itself is written in Rattle and proved: what a call answers, and the record that it
-//! leaves, equal the rules of document 01 for any record and any argument. `tools/archives biasflint`
-//! makes the archive that this crate links. The crate around it is ordinary Rust and not proved: it
-//! keeps the record, turns calls into the library's cards and the library's lines into actions, and
-//! has no rule of its own. Names are those of the Rust that the manager is a port of, summerset's
+//! leaves, equal the rules of `docs/RULEBOOK.md` for any record and any argument. `tools/archives
+//! biasflint` makes the archive that this crate links. The crate around it is ordinary Rust and not
+//! proved: it keeps the record, turns calls into the library's cards and the library's lines into
+//! actions, and has no rule of its own. Names are those of the Rust that the manager is a port of, summerset's
 //! `src/server/leaseman.rs`.
 //!
 //! [`LeaseManager`] is where to start; `examples/five_lines.rs` is a host loop of five controllers.

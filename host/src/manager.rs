@@ -14,8 +14,8 @@ use crate::{ReplicaId, cards};
 /// [`add_notice`](LeaseManager::add_notice).
 ///
 /// A refused call leaves the record as it was. Before anything else every call looks at the record,
-/// and one that no call from set-up leads to is refused with [`Refusal::BadRecord`]: this can only
-/// happen after [`from_record`](LeaseManager::from_record). No call allocates or waits, and none
+/// and one that is no manager's (rule 5.3) is refused with [`Refusal::InvalidRecord`]: this can
+/// only happen after [`from_record`](LeaseManager::from_record). No call allocates or waits, and none
 /// panics unless the library breaks its contract.
 ///
 /// ```
@@ -46,7 +46,7 @@ pub struct LeaseManager {
 
 impl LeaseManager {
     /// A manager of own id `me`, with T = `expire_timeout`, at the reading `now`. It starts under
-    /// number 0 with nothing granted or held, outside quiet time, with a true clock.
+    /// number 0 with nothing granted or held, outside quiet time, with a true clock (rule 6.2).
     ///
     /// # Errors
     /// [`Refusal`] 1 to 5, in that order.
@@ -57,7 +57,7 @@ impl LeaseManager {
     ///
     /// let (t, hb) = (Duration::from_millis(100), Duration::from_millis(50));
     /// let refused = LeaseManager::new_and_setup(0, 5, t, hb, Reading(0));
-    /// assert_eq!(refused, Err(Refusal::HbSendInterval));
+    /// assert_eq!(refused, Err(Refusal::HeartbeatTooSlow));
     /// ```
     pub fn new_and_setup(
         me: ReplicaId,
@@ -73,7 +73,7 @@ impl LeaseManager {
     }
 
     /// A manager that goes on from a stored record. The record is not looked at here but by each
-    /// call: 15 if no call from set-up leads to such a record.
+    /// call: 15 if it is no manager's (rule 5.3).
     ///
     /// ```
     /// use biasflint::{LeaseManager, Reading, Refusal};
@@ -85,7 +85,7 @@ impl LeaseManager {
     /// assert_eq!(LeaseManager::from_record(stored), manager);
     ///
     /// stored.population = 65;
-    /// assert_eq!(LeaseManager::from_record(stored).lease_cnt(), Err(Refusal::BadRecord));
+    /// assert_eq!(LeaseManager::from_record(stored).lease_cnt(), Err(Refusal::InvalidRecord));
     /// # Ok::<(), Refusal>(())
     /// ```
     #[must_use]
@@ -124,7 +124,8 @@ impl LeaseManager {
     }
 
     /// Handles one notice, and gives the actions that follow from it, in order. A number below the
-    /// active one changes nothing; a higher one first ends all grants and leases under the old.
+    /// active one changes nothing; a higher one first ends all grants and leases under the old
+    /// (section 7 of the rules).
     ///
     /// # Errors
     /// 15; for a notice about one peer 7, then 8; for one with a set 9. A refused notice never
@@ -159,7 +160,7 @@ impl LeaseManager {
 
     /// Sets the clock, and tells which timers fired, in order: each timer that is due fires once.
     /// The host adds the [timeout notices](Advanced::timeouts) under the active number, now or
-    /// later.
+    /// later (rules 8.1 to 8.3).
     ///
     /// # Errors
     /// 15; then 5, then 6. The present reading is accepted again.
@@ -170,7 +171,7 @@ impl LeaseManager {
 
     /// After a restart: quiet time, in which all peers count as granted to, for 2T from now. It
     /// replaces an earlier quiet time. Its end comes with an advance, as
-    /// [`quiet_end`](Advanced::quiet_end).
+    /// [`quiet_end`](Advanced::quiet_end) (rule 8.4).
     ///
     /// # Errors
     /// 15.
@@ -194,7 +195,8 @@ impl LeaseManager {
 
     /// Which peers to send a Promise to with the heartbeat that is due: those that are marked, have
     /// a promise sent and are in the set, if there is one. They lose their marks, and their timers
-    /// are extended by T. One that is being revoked or has run out loses its mark and is not named.
+    /// are extended by T. One that is being revoked or has run out loses its mark and is not named
+    /// (rule 8.5).
     ///
     /// # Errors
     /// 15; then 12. The set's size need not be the population.
@@ -202,7 +204,7 @@ impl LeaseManager {
         self.lend(cards::refresh(peers)).map(cards::set)
     }
 
-    /// Sets how the clock drifts, for timers armed from now on.
+    /// Sets how the clock drifts, for timers armed from now on (rule 8.6).
     ///
     /// # Errors
     /// 15.
@@ -223,7 +225,7 @@ impl LeaseManager {
     }
 
     /// The peers that a promise was sent to, those being revoked or run out included; in quiet time
-    /// all peers.
+    /// all peers (rule 9.1).
     ///
     /// # Errors
     /// 15.
@@ -231,7 +233,7 @@ impl LeaseManager {
         self.ask(cards::plain(cards::GRANT_SET)).map(cards::set)
     }
 
-    /// The peers from which a promise is held that has not run out.
+    /// The peers from which a promise is held that has not run out (rule 9.2).
     ///
     /// # Errors
     /// 15.
@@ -239,7 +241,7 @@ impl LeaseManager {
         self.ask(cards::plain(cards::LEASE_SET)).map(cards::set)
     }
 
-    /// One more than the lease set has, for the controller itself.
+    /// One more than the lease set has, for the controller itself (rule 9.3).
     ///
     /// # Errors
     /// 15.
@@ -249,7 +251,7 @@ impl LeaseManager {
 
     /// How long the promise held from a peer lasts, in whole ms rounded up: 0 exactly if it has run
     /// out, so that a peer has some ms left exactly while it is in the lease set. None if there is
-    /// no such promise.
+    /// no such promise (rule 9.4).
     ///
     /// # Errors
     /// 15; then 7, then 8.
@@ -261,7 +263,7 @@ impl LeaseManager {
     /// let (t, hb) = (Duration::from_secs(1), Duration::from_millis(100));
     /// let mut manager = LeaseManager::new_and_setup(0, 3, t, hb, Reading(0))?;
     /// assert_eq!(manager.time_left(2), Ok(None));
-    /// assert_eq!(manager.time_left(300), Err(Refusal::UnknownPeer));
+    /// assert_eq!(manager.time_left(300), Err(Refusal::PeerNotBelowPopulation));
     ///
     /// // a promise from peer 2, which lasts until 1 s
     /// for msg in [LeaseMsg::Guard { accept_bar: None }, LeaseMsg::Promise] {

@@ -2,9 +2,9 @@
 //! card of six numbers, an answer as at most three lines of numbers with the timers that fired, and
 //! the one function that takes them.
 //!
-//! What each number stands for is in `crates/host_record`, `crates/host_cards`, `crates/host_lines`
-//! and `crates/host_answers`, of fired timers in `crates/lease`. No proof reaches these declarations: the sizes and offsets below are
-//! asserted when the crate is built, and `tests/layout.rs` shows that the library has the same.
+//! What each number stands for is in rules 13.1 to 13.4, and in `crates/wire`. No proof reaches these
+//! declarations: the sizes and offsets below are asserted when the crate is built, and
+//! `tests/layout.rs` shows that the library has the same.
 //!
 //! A host needs this module only to store a record and to take it back, see
 //! [`LeaseManager::from_record`](crate::LeaseManager::from_record).

@@ -3,62 +3,66 @@
 use std::error::Error;
 use std::fmt;
 
-/// Why a call was refused, under document 01's number. A refused call leaves the record as it was.
+/// Why a call was refused. Refusal N is that of rule 10.N of `docs/RULEBOOK.md`, and its name the
+/// library's own (`lease::Refusal`). A refused call leaves the record as it was (rule 10.31).
 ///
 /// ```
 /// use biasflint::Refusal;
 ///
-/// assert_eq!(Refusal::OwnPeer.number(), 8);
-/// assert_eq!(Refusal::from_number(8), Some(Refusal::OwnPeer));
-/// assert_eq!(Refusal::OwnPeer.to_string(), "8: the peer is the own id");
+/// assert_eq!(Refusal::PeerIsOwn.number(), 8);
+/// assert_eq!(Refusal::from_number(8), Some(Refusal::PeerIsOwn));
+/// assert_eq!(Refusal::PeerIsOwn.to_string(), "8: the peer is the own id");
 /// ```
 #[derive(Clone, Copy, Debug, PartialEq, Eq, Hash)]
 pub enum Refusal {
-    /// 1, of set-up: T is under 100 ms or over 10 s.
-    ExpireTimeout = 1,
-    /// 2, of set-up: twice the heartbeat interval is not below T.
-    HbSendInterval = 2,
-    /// 3, of set-up: the population is not 1 to 64.
-    Population = 3,
-    /// 4, of set-up: the own id is not below the population.
-    OwnId = 4,
-    /// 5, of set-up and advance: the reading is over 9,223,372,036,854,775,807 ns.
-    LateReading = 5,
-    /// 6, of advance: the reading is below the present one.
-    EarlyReading = 6,
-    /// 7, of a notice about one peer and of time left: the peer is not below the population.
-    UnknownPeer = 7,
-    /// 8, of a notice about one peer and of time left: the peer is the own id.
-    OwnPeer = 8,
-    /// 9, of `NewGrants` and `DoRevoke`: the set's size is not the population.
-    SetSize = 9,
-    /// 12, of a refresh: the set's size is not 1 to 64.
-    BadSize = 12,
-    /// 15, of every call but set-up, and looked at first: the record is no manager's.
-    BadRecord = 15,
-    /// 22: the card is no call. Only a card made by hand, for [`raw::call`](crate::raw::call), can
-    /// be refused so.
+    /// Refusal 1, of set-up: T is under 100 ms or over 10 s (rule 10.1).
+    TimeoutOutOfRange = 1,
+    /// Refusal 2, of set-up: twice the heartbeat interval is not below T (rule 10.2).
+    HeartbeatTooSlow = 2,
+    /// Refusal 3, of set-up: the population is not 1 to 64 (rule 10.3).
+    PopulationOutOfRange = 3,
+    /// Refusal 4, of set-up: the own id is not below the population (rule 10.4).
+    OwnNotBelowPopulation = 4,
+    /// Refusal 5, of set-up and advance: the reading is over 9,223,372,036,854,775,807 ns
+    /// (rule 10.5).
+    ReadingTooHigh = 5,
+    /// Refusal 6, of advance: the reading is below the present one (rule 10.6).
+    ReadingBelowPresent = 6,
+    /// Refusal 7, of a notice about one peer and of time left: the peer is not below the population
+    /// (rule 10.7).
+    PeerNotBelowPopulation = 7,
+    /// Refusal 8, of a notice about one peer and of time left: the peer is the own id (rule 10.8).
+    PeerIsOwn = 8,
+    /// Refusal 9, of `NewGrants` and `DoRevoke`: the set's size is not the population (rule 10.9).
+    SetSizeNotPopulation = 9,
+    /// Refusal 12, of a refresh: the set's size is not 1 to 64 (rule 10.12).
+    SetSizeOutOfRange = 12,
+    /// Refusal 15, of every call but set-up, and looked at first: the record is no manager's
+    /// (rules 5.3 and 10.15).
+    InvalidRecord = 15,
+    /// Refusal 22: the card is no call (rule 10.22). Only a card made by hand, for
+    /// [`raw::call`](crate::raw::call), can be refused so.
     NoCall = 22,
 }
 
 impl Refusal {
     /// Every refusal, by number.
     pub const ALL: [Refusal; 12] = [
-        Refusal::ExpireTimeout,
-        Refusal::HbSendInterval,
-        Refusal::Population,
-        Refusal::OwnId,
-        Refusal::LateReading,
-        Refusal::EarlyReading,
-        Refusal::UnknownPeer,
-        Refusal::OwnPeer,
-        Refusal::SetSize,
-        Refusal::BadSize,
-        Refusal::BadRecord,
+        Refusal::TimeoutOutOfRange,
+        Refusal::HeartbeatTooSlow,
+        Refusal::PopulationOutOfRange,
+        Refusal::OwnNotBelowPopulation,
+        Refusal::ReadingTooHigh,
+        Refusal::ReadingBelowPresent,
+        Refusal::PeerNotBelowPopulation,
+        Refusal::PeerIsOwn,
+        Refusal::SetSizeNotPopulation,
+        Refusal::SetSizeOutOfRange,
+        Refusal::InvalidRecord,
         Refusal::NoCall,
     ];
 
-    /// Document 01's number of the refusal.
+    /// The number of the refusal: N of rule 10.N.
     #[must_use]
     pub const fn number(self) -> u64 {
         self as u64
@@ -72,19 +76,19 @@ impl Refusal {
 
     fn text(self) -> &'static str {
         match self {
-            Refusal::ExpireTimeout => "the expire timeout is under 100 ms or over 10 s",
-            Refusal::HbSendInterval => {
+            Refusal::TimeoutOutOfRange => "the expire timeout is under 100 ms or over 10 s",
+            Refusal::HeartbeatTooSlow => {
                 "twice the heartbeat interval is not below the expire timeout"
             }
-            Refusal::Population => "the population is not 1 to 64",
-            Refusal::OwnId => "the own id is not below the population",
-            Refusal::LateReading => "the reading is over the largest",
-            Refusal::EarlyReading => "the reading is below the present one",
-            Refusal::UnknownPeer => "the peer is not below the population",
-            Refusal::OwnPeer => "the peer is the own id",
-            Refusal::SetSize => "the set's size is not the population",
-            Refusal::BadSize => "the set's size is not 1 to 64",
-            Refusal::BadRecord => "the record is no manager's",
+            Refusal::PopulationOutOfRange => "the population is not 1 to 64",
+            Refusal::OwnNotBelowPopulation => "the own id is not below the population",
+            Refusal::ReadingTooHigh => "the reading is over the largest",
+            Refusal::ReadingBelowPresent => "the reading is below the present one",
+            Refusal::PeerNotBelowPopulation => "the peer is not below the population",
+            Refusal::PeerIsOwn => "the peer is the own id",
+            Refusal::SetSizeNotPopulation => "the set's size is not the population",
+            Refusal::SetSizeOutOfRange => "the set's size is not 1 to 64",
+            Refusal::InvalidRecord => "the record is no manager's",
             Refusal::NoCall => "the card is no call",
         }
     }
@@ -105,7 +109,7 @@ mod tests {
     use super::*;
 
     #[test]
-    fn numbers_are_document_01s() {
+    fn numbers_are_those_of_the_rules() {
         let numbers = Refusal::ALL.map(Refusal::number);
         assert_eq!(numbers, [1, 2, 3, 4, 5, 6, 7, 8, 9, 12, 15, 22]);
         for number in 0..30 {

@@ -165,7 +165,7 @@ fn the_record_is_looked_at_first() {
 
 #[test]
 fn of_records() {
-    // Document 01's list under 15, each on a record that is accepted without it.
+    // Each part of rule 5.3 broken, on a record that is accepted without it.
     let changes: [fn(&mut ManagerC); 16] = [
         |r| r.expire_timeout = 99_999_999,
         |r| r.population = 65,
@@ -189,7 +189,7 @@ fn of_records() {
         assert_eq!(LeaseManager::from_record(stored).lease_cnt(), Ok(2));
         change(&mut stored);
         let refused = LeaseManager::from_record(stored).lease_cnt();
-        assert_eq!(refused, Err(Refusal::BadRecord), "change {i}");
+        assert_eq!(refused, Err(Refusal::InvalidRecord), "change {i}");
     }
 }
 

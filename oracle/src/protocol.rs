@@ -16,7 +16,7 @@ struct Options {
     state: bool,
     /// Hand on each answer at once.
     flush: bool,
-    /// Let set-ups through that document 01 refuses and the Rust does not judge.
+    /// Let set-ups through that rules 10.3 and 10.4 refuse and the Rust does not judge.
     any: bool,
 }
 

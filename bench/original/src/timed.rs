@@ -1,6 +1,6 @@
 //! The lease manager as the repository runs it, its task spawned and its channels in use, timed
-//! over lists of calls. Calls and actions are the cards and lines of crates/host_cards and
-//! crates/host_lines, as plain numbers.
+//! over lists of calls. Calls and actions are the cards and lines of crates/wire/src/calls.rt and
+//! crates/wire/src/lines.rt, as plain numbers.
 
 use std::hint::black_box;
 use std::time::Instant;

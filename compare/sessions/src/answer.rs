@@ -1,5 +1,5 @@
 //! The library's answer to a call as the text that the oracle's protocol gives it. Codes and fields
-//! of the lines are those of crates/host_lines/specs/Lines.antt.
+//! of the lines are those of rule 13.3.
 use crate::call::Call;
 use crate::text;
 use biasflint::raw::{AnswerC, LineC};

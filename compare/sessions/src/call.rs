@@ -188,7 +188,7 @@ impl Call {
     }
 }
 
-// ---- as a card: codes and fields are those of crates/host_cards/specs/Cards.antt
+// ---- as a card: codes and fields are those of rule 13.2
 
 fn set_card(code: u64, number: u64, peers: PeerSet) -> CallC {
     let set = peers.unwrap_or(Ids { size: 0, bits: 0 });

@@ -1,5 +1,4 @@
-//! What was met on the way: the cases of document 01's rules, told from the record before and after
-//! a call.
+//! What was met on the way: the cases of the rules, told from the record before and after a call.
 use crate::call::{Call, Ids, LARGEST_READING, MS, Msg, Notice, PeerSet};
 use crate::fired::{self, Timer};
 use crate::state::{ARMED, EXPLODED, deadlines, rows};
@@ -288,7 +287,7 @@ impl Counts {
         for pair in timers.windows(2) {
             let ((d, x_held, x), (e, y_held, y)) = (pair[0], pair[1]);
             self.met_if(Event::OrderDeadlines, d < e && (x_held, x) > (y_held, y));
-            self.met_if(Event::OrderSides, d == e && x_held < y_held);
+            self.met_if(Event::OrderSides, d == e && !x_held && y_held);
             self.met_if(Event::OrderIds, d == e && x_held == y_held);
         }
     }

@@ -1,4 +1,4 @@
-//! The order of fired timers (document 02, wish 2), worked out here and not by the library: by the
+//! The order of fired timers (rule 8.3), worked out here and not by the library: by the
 //! deadlines of the state before the advance. Every state is compared with the Rust's, so these are
 //! its deadlines.
 use crate::call::MS;

@@ -1,5 +1,5 @@
-//! Which calls document 01 refuses, and with which number: a few lines that know nothing of the
-//! library. What they look at is what the accepted calls said.
+//! Which calls are refused, and with which number (section 10 of the rules): a few lines that know
+//! nothing of the library. What they look at is what the accepted calls said.
 use crate::call::{Call, LARGEST_READING, MS, Notice, PeerSet, SetUp};
 
 #[derive(Clone, Copy, Default)]

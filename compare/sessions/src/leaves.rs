@@ -1,5 +1,5 @@
-//! The drift leaf and module 1's calls on sets, through the exports of crates/drift_c and
-//! crates/bitmap_c, and their answers as text.
+//! The drift leaf and the calls on sets, through the exports of `crates/leaves_c`, and their answers
+//! as text.
 use crate::call::Ids;
 use crate::text;
 
@@ -72,7 +72,7 @@ pub fn write_drifted(out: &mut Vec<u8>, d: &DriftedC) {
 
 // ---- sets
 
-/// A call of module 1. Ids are as wide as the C ABI takes them; a set's size is a byte there.
+/// A call on sets. Ids are as wide as the C ABI takes them; a set's size is a byte there.
 #[derive(Clone, Debug, PartialEq)]
 pub enum SetCall {
     New { size: u8, ones: bool },
@@ -119,7 +119,7 @@ fn list(size: u8, ids: &[u8]) -> SetC {
     unsafe { bitmap_list(size, ids.as_ptr(), ids.len()) }
 }
 
-// Sizes of sets for module 1 are read as bytes.
+// Sizes of sets are read as bytes.
 fn size(set: Ids) -> u8 {
     u8::try_from(set.size).expect("a size of one byte")
 }

@@ -11,9 +11,8 @@
 //!   fire there to what deadlines a ms or more apart allow.
 //! - `record` prints the calls that `run` would put to the oracle; with `--few`, of few ids.
 //! - `choose` prints a short list of calls in which every event of `run` is met that many times.
-//! - `sample` reads pairs of lines, a call and the oracle's answer with its state, and writes them in
-//!   the columns of `crates/rust_sample`:
-//!   `paste -d '\n' CALLS ANSWERS | sessions sample --cards FILE --answers FILE`.
+//! - `sample` reads pairs of lines, a call and the oracle's answer with its state, and prints them in
+//!   the notation of `crates/examples`: `paste -d '\n' CALLS ANSWERS | sessions sample`.
 //! - `cards` draws sessions at random as event cards, puts them to the program `replay` and compares
 //!   the lines that it prints with the oracle's answers; and to the program `sheet`, whose sheet is
 //!   compared with the oracle's state at the end.
@@ -49,7 +48,7 @@ sessions answer [--state]
 sessions run --seed S --calls N [--mode wide|near|whole|drift|bitmap] --oracle PATH
 sessions record --seed S --calls N [--mode wide|near|whole] [--few]
 sessions choose --seed S --times N
-sessions sample --cards FILE --answers FILE
+sessions sample
 sessions cards --seed S --cards N [--mode wide|near|whole] --oracle PATH --replay PATH --sheet PATH
 sessions expect --oracle PATH [--sheet]
 sessions sheets --seed S --sessions N [--mode wide|near|whole] --oracle PATH --cases FOLDER";
@@ -107,9 +106,8 @@ fn choose(arguments: &Arguments) -> Result<(), String> {
     choose::choose(seed, times).map_err(|error| error.to_string())
 }
 
-fn sample(arguments: &Arguments) -> Result<(), String> {
-    let (cards, answers) = (arguments.needed("--cards")?, arguments.needed("--answers")?);
-    sample::write(cards, answers).map_err(|error| error.to_string())
+fn sample() -> Result<(), String> {
+    sample::write().map_err(|error| error.to_string())
 }
 
 fn cards(arguments: &Arguments) -> Result<(), String> {
@@ -143,7 +141,7 @@ fn main() -> ExitCode {
         Some("run") => run(&arguments),
         Some("record") => record(&arguments),
         Some("choose") => choose(&arguments),
-        Some("sample") => sample(&arguments),
+        Some("sample") => sample(),
         Some("cards") => cards(&arguments),
         Some("expect") => expect(&arguments),
         Some("sheets") => sheets(&arguments),

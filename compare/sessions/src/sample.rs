@@ -1,11 +1,10 @@
-//! Stored samples: calls as cards of fixed columns, and the oracle's answers in the columns that
-//! the program crates/rust_sample prints (the head of its main.rt says what each line is).
+//! Stored samples: calls as cards of fixed columns, and under each the oracle's answer as the lines
+//! that must come, in the notation of the program `crates/examples` (its README says what each is).
 use crate::answer::ACTIONS;
 use crate::call::{Call, Ids};
 use crate::fired;
 use crate::parse::{self, Line};
 use biasflint::raw::LineC;
-use std::fs::File;
 use std::io::{self, BufRead, BufWriter, Write};
 
 /// The width of each column.
@@ -270,24 +269,32 @@ fn stored(call: &str, before: &str, answer: &str) -> Option<(String, String)> {
     Some((card(&call)?, lines?.concat()))
 }
 
-/// Reads pairs of lines, a call and the oracle's answer with its state, and writes both files.
-pub fn write(cards: &str, answers: &str) -> io::Result<()> {
-    let mut cards = BufWriter::new(File::create(cards)?);
-    let mut answers = BufWriter::new(File::create(answers)?);
+/// Reads pairs of lines, a call and the oracle's answer with its state, and prints each session as
+/// an example: its words, then each card with the lines that must come under it.
+pub fn write() -> io::Result<()> {
+    let mut output = BufWriter::new(io::stdout().lock());
     let mut lines = io::stdin().lock().lines();
-    let mut state = String::new();
+    let (mut state, mut session) = (String::new(), String::new());
+    let (mut first, mut count) = (1, 0);
     while let Some(call) = lines.next() {
         let call = call?;
         let answer =
             lines.next().ok_or_else(|| io::Error::other("no answer to the last call"))??;
         let (card, stored) = stored(&call, &state, &answer)
             .ok_or_else(|| io::Error::other(format!("cannot be stored: {call}\n{answer}")))?;
-        cards.write_all(card.as_bytes())?;
-        answers.write_all(stored.as_bytes())?;
+        let is_set_up = matches!(parse::line(&call), Line::Call(Call::SetUp(_)));
+        if is_set_up && !answer.starts_with("refused ") && !session.is_empty() {
+            write!(output, "the Rust, cards {first} to {count}\n{session}")?;
+            session.clear();
+            first = count + 1;
+        }
+        count += u64::from(!card.is_empty());
+        session.push_str(&card);
+        session.push_str(&stored);
         if answer.contains(" | ") {
             state = state_of(&answer).to_string();
         }
     }
-    cards.flush()?;
-    answers.flush()
+    write!(output, "the Rust, cards {first} to {count}\n{session}")?;
+    output.flush()
 }

@@ -7,7 +7,7 @@ use biasflint::{LeaseAction, LeaseManager, LeaseMsg, LeaseNotice, LeaseNum, Read
 
 pub const T: Duration = Duration::from_secs(1);
 
-/// Document 01's manager of the examples: population 3, own id 0, T = 1 s, start 0.
+/// The manager of the worked examples (rule 20.1): population 3, own id 0, T = 1 s, start 0.
 pub fn set_up() -> LeaseManager {
     set_up_of(0, 3)
 }

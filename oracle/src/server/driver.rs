@@ -274,8 +274,7 @@ impl Session {
         Some(())
     }
 
-    /// Added by document 01: worked out here from the Rust's deadline, in ms, rounded up as
-    /// document 02 has it.
+    /// Of the rules alone (rule 9.4): worked out here from the Rust's deadline, in ms, rounded up.
     fn time_left(&self, peer: u8) -> Option<u128> {
         let timer = self.mgr.promises_held.get(&peer)?;
         Some(match probe::state(timer.value()) {

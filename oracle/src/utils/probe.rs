@@ -1,7 +1,7 @@
 //! Child of timer.rs: reads a timer's private state.
 use super::{Instant, Timer};
 
-/// What document 01 calls a timer's state.
+/// A timer's state (rule 1.9).
 #[derive(Clone, Copy, PartialEq, Eq, Debug)]
 pub enum State {
     Unarmed,

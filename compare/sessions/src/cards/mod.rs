@@ -1,4 +1,4 @@
-//! Random sessions as event cards (document 02, wish 1): each goes through the program `replay`, and
+//! Random sessions as event cards (rules 14.1 to 14.6): each goes through the program `replay`, and
 //! what it prints is compared with the oracle's answers written as output lines; and through the
 //! program `sheet`, whose sheet is compared with the oracle's state at the end (`sheet`). Calls that
 //! no card can carry are left out, on both sides. Among the cards are refused ones and lines spoiled
@@ -90,7 +90,7 @@ struct Before {
 }
 
 impl Before {
-    // The call of a line, or its refusal: 21, 22, 23, then document 01's.
+    // The call of a line, or its refusal: 21, 22, 23, then the call's own (rule 14.3).
     fn judged(&self, line: &[u8]) -> Result<Call, u64> {
         let call = read::line(line)?;
         if matches!(call, Call::SetUp(_)) == self.set_up {

@@ -1,4 +1,4 @@
-//! An event card read by document 02's wish 1, in a few lines that know nothing of the program: 21 and
+//! An event card read (rules 14.1 to 14.3), in a few lines that know nothing of the program: 21 and
 //! 22, and the call that a card says.
 use crate::call::{Call, Ids, Msg, Notice, PeerSet, SetUp};
 

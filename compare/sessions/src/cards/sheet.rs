@@ -1,4 +1,4 @@
-//! The shift sheet (document 02, wish 4) of a session of cards, worked out here from the state that
+//! The shift sheet (rules 15.1 and 15.2) of a session of cards, worked out here from the state that
 //! the oracle shows at its end; and what a run has met in its sheets.
 use crate::call::{MS, SetUp};
 use crate::sample;

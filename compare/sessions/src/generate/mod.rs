@@ -30,7 +30,7 @@ pub struct Limits {
 }
 
 impl Limits {
-    /// Document 01's populations.
+    /// Every population (rule 1.1).
     pub const ALL: Limits = Limits { population: 64, length: 400 };
     /// Few ids, so that the record is short to print.
     pub const FEW: Limits = Limits { population: 5, length: 60 };

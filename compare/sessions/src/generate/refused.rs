@@ -1,4 +1,4 @@
-//! Calls that document 01 refuses.
+//! Calls that are refused (rules 10.1 to 10.12).
 use super::{Generator, Kind, setup};
 use crate::call::{Call, Ids, Notice};
 use biasflint::raw::ManagerC;

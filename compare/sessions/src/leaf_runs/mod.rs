@@ -1,4 +1,4 @@
-//! The leaves beside the Rust: drift bit for bit, and module 1's calls on sets.
+//! The leaves beside the Rust: drift bit for bit, and the calls on sets.
 pub mod drift;
 pub mod sets;
 

@@ -1,4 +1,4 @@
-//! Sets of ids: each call of module 1 with any arguments, and what the Rust says where the library
+//! Sets of ids: each call on them with any arguments, and what the Rust says where the library
 //! refuses.
 use super::Run;
 use crate::call::Ids;
@@ -69,7 +69,7 @@ fn sizes(call: &SetCall) -> Vec<u64> {
     }
 }
 
-// What document 01 refuses: 0, or the number.
+// The refusal of a call by the rules: 0, or the number.
 fn refusal(call: &SetCall) -> u8 {
     let sizes = sizes(call);
     if sizes.iter().any(|size| *size < 1 || *size > 64) {
@@ -213,7 +213,7 @@ fn difference(what: String) -> io::Error {
     io::Error::other(format!("DIFFERENCE: {what}"))
 }
 
-// The library refuses what document 01 refuses.
+// The library refuses what the rules refuse.
 fn expect(call: &SetCall, answer: &SetAnswer) -> io::Result<()> {
     let got = if let SetAnswer::Refused(k) = answer { *k } else { 0 };
     if got == refusal(call) {

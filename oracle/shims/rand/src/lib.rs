@@ -1,5 +1,5 @@
 //! Stand-in for rand 0.9: the names that faults.rs and error.rs use. The random
-//! faults are out of scope and never drawn here: every draw panics.
+//! faults are never drawn here: every draw panics.
 
 pub mod rngs {
     #[derive(Debug)]
@@ -22,11 +22,11 @@ pub trait SeedableRng: Sized {
 
 pub trait Rng {
     fn random_range<T, R: std::ops::RangeBounds<T>>(&mut self, _range: R) -> T {
-        panic!("random faults are out of scope")
+        panic!("random faults are never drawn here")
     }
 
     fn random<T>(&mut self) -> T {
-        panic!("random faults are out of scope")
+        panic!("random faults are never drawn here")
     }
 }
 

@@ -1,4 +1,4 @@
-//! Stand-in: both derives give nothing (no byte layout is in scope).
+//! Stand-in: both derives give nothing (nothing here has a byte layout).
 use proc_macro::TokenStream;
 
 #[proc_macro_derive(SchemaWrite, attributes(wincode))]

@@ -1,2 +1,0 @@
-# set_notices: the Guard broadcast loses its bar
-s/LeaseMsg::Guard(bar)/LeaseMsg::Guard(None)/

@@ -1,2 +1,0 @@
-# visits: NewGrants guards a peer that has a promise
-s/named \&\& row.promise_sent.is_none()/named/
