@@ -28,10 +28,11 @@ use Rattle.lease.specs.Refusals.{advance_refusal, refusal_number}
 use Rattle.lease.specs.Rules.{notice_of, advance_of, quiet_of, refresh_of, drift_of, grant_set_of, lease_set_of, lease_cnt_of, time_left_of}
 use Rattle.lease.specs.Verdicts.{Call, notice, advance, quiet-start, refresh, drift, grant-set, lease-set, lease-cnt, time-left, Verdict, refused, done, lines_of, by_notice, verdict}
 use Rattle.lease.proofs.Judged.{judged-by}
-use Rattle.lease_log.specs.Log.{Run, LogLine, log-line, stamped, is_promise, promise_lines, noted, stepped, run_from, journal_at}
+use Rattle.lease_log.specs.Log.{Run, stamped, is_promise, promise_lines, noted, stepped, run_from, journal_at}
 use Rattle.lease_log.specs.LogTheorem.{Typed, AllTyped, LogDecides}
 use Rattle.lease_log.specs.Program.{left_by}
-use Rattle.lease_log.proofs.LogTheorem.{log-theorem}
+use Rattle.lease_log.proofs.LogFacts.{promise_lines-append}
+use Rattle.lease_log.proofs.LogTheorem.{left-stepped, log-theorem}
 use Rattle.wire.specs.declared.flat.ManagerC.{ManagerC}
 use Rattle.wire.specs.Flat.{flat_of}
 use Rattle.wire.specs.FromFlat.{manager_of}
@@ -84,10 +85,6 @@ lines-counted r k L.None = refl
 lines-counted r k (L.One a) = let x = promise-code a in omega arith
 lines-counted r k (L.Two a b) = let x = promise-code a in let y = promise-code b in omega arith
 lines-counted r k (L.Three a b c) = let x = promise-code a in let y = promise-code b in let z = promise-code c in omega arith
-
-more-lines : (a b : List LogLine) → promise_lines (a ++ b) ≡ promise_lines a + promise_lines b
-more-lines [] b = omega arith
-more-lines (log-line n x r c ∷ a) b = let e = more-lines a b in omega arith
 
 refused-counted : (k : ℕ) → promises_in (refused_answer k) ≡ 0
 unfolding refused_answer
@@ -150,7 +147,7 @@ module _ (r : Run) where
           → promise_lines (stepped r (notice num x) (by_notice o m)).journal.log ≡ promise_lines r.journal.log + promises_in (notice_answer o)
       go num x (Err k) m = let e = refused-counted (refusal_number k) in omega arith
       go num x (Ok lines) m =
-          let e = more-lines r.journal.log (stamped r.journal.now r.journal.clock (lines_of lines)) in
+          let e = promise_lines-append r.journal.log (stamped r.journal.now r.journal.clock (lines_of lines)) in
           let f = lines-counted r.journal.now r.journal.clock lines in
           omega arith
 
@@ -193,10 +190,6 @@ one-more r (c ∷ cs) x = one-more (stepped r c (verdict r.manager c)) cs x
 typed-more : (cs : List Call) (x : Call) → AllTyped cs → Typed x → AllTyped (cs ++ (x ∷ []))
 typed-more [] x h t = (t, tt)
 typed-more (c ∷ cs) x h t = (h.0, typed-more cs x h.1 t)
-
-stepped-left : (r : Run) (x : Call) (v : Verdict) → (stepped r x v).manager ≡ left_by r.manager v
-stepped-left r x (refused k) = refl
-stepped-left r x (done l m) = refl
 
 -- ---- a history whose record is f
 
@@ -245,7 +238,7 @@ card-leads h f c d = go (eqb c.code 1) refl
           led = record {
             accepted = d.accepted;
             typed = typed-more h.calls x d.typed (call-typed c);
-            here = to ∙ ap flat_of (sym (ap (λ (z : Run). z.manager) more ∙ stepped-left r x (verdict r.manager x)));
+            here = to ∙ ap flat_of (sym (ap (λ (z : Run). z.manager) more ∙ left-stepped r x (verdict r.manager x)));
           };
           counted = omega arith;
         }

@@ -1,6 +1,6 @@
 -- The calls of the code leave the record that the rules leave, so that the log theorem is theirs
 -- too. Assumes nothing.
-use Rattle.std.specs.Prelude.{Option, Some, Result, Ok, Err, ℕ, zero, suc, ℤ, take, drop}
+use Rattle.std.specs.Prelude.{Option, Some, Result, Ok, Err, ℕ, zero, suc, take, drop}
 use lib.ListN.{set}
 use native.Mathlib.Numerals.{add-one}
 use Rattle.call_history.specs.declared.Answer.{Answer}
@@ -13,25 +13,20 @@ use Rattle.lease.specs.declared.Lines.{Lines}
 use Rattle.lease.specs.declared.LeaseNum.{LeaseNum}
 use Rattle.lease.specs.declared.LeaseNotice.{LeaseNotice}
 use Rattle.lease.specs.declared.Manager.{Manager}
-use Rattle.lease.specs.declared.Advanced.{Advanced}
-use Rattle.lease.specs.Notices.{accepted_of}
-use Rattle.lease.specs.Calls.{advance_to, assume_unknown_grants, attempt_refresh, set_drift}
-use Rattle.lease.specs.RecordCheck.{record_valid}
-use Rattle.lease.specs.Refusals.{notice_refusal, advance_refusal, refresh_refusal}
 use Rattle.lease.specs.SetUp.{setup_of}
-use Rattle.lease.specs.Rules.{notice_given, notice_of, advance_of, quiet_of, refresh_of, drift_of, grant_set_of, lease_set_of, lease_cnt_of, time_left_of}
-use Rattle.lease.specs.Verdicts.{Call as RuleCall, notice, advance, quiet-start, refresh, drift, grant-set, lease-set, lease-cnt, time-left, Verdict, refused, done, lines_of, by_notice, by_advance, by_plain, by_set, by_count, by_time_left, verdict}
-use Rattle.lease.proofs.Judged.{judged-by}
+use Rattle.lease.specs.Rules.{notice_of, grant_set_of, lease_set_of, lease_cnt_of, time_left_of}
+use Rattle.lease.specs.Verdicts.{Call as RuleCall, notice, advance, quiet-start, refresh, drift, grant-set, lease-set, lease-cnt, time-left, Verdict, refused, done, lines_of, by_notice, verdict}
 use native.Mathlib.Omega.{arith}
 use Prim.Native.Nat.{◌+◌}
 use mathlib.Core.List.{◌++◌}
 use Rattle.lease.specs.Sets.{one}
 use Rattle.lease.specs.declared.Line.{Line}
-use Rattle.lease_log.specs.Log.{LogLine, log-line, stamped, is_promise, promise_lines, journal_at, noted, Run, stepped, run_from}
+use Rattle.lease_log.specs.Log.{stamped, is_promise, promise_lines, journal_at, noted, Run, stepped, run_from}
 use Rattle.call_history.specs.declared.Answer.TheVariants as A
 use Rattle.lease_log.specs.LogTheorem.{AllTyped, run_of}
-use Rattle.lease_log.specs.Program.{Chain, stop, step, left_by, Ruled, Answers}
+use Rattle.lease_log.specs.Program.{Chain, stop, step, Ruled, Answers}
 use Rattle.reachable.proofs.Calls.{left-notice, left-advance, left-quiet, left-refresh, left-drift, left-set, left-count, left-time}
+use Rattle.lease_log.proofs.LogFacts.{promise_lines-append}
 use Rattle.lease_log.proofs.LogTheorem.{left-stepped}
 use Rattle.lease_log.proofs.Program.{log-theorem-of-ruled}
 use Rattle.call_history.specs.declared.Call.{Call}
@@ -100,17 +95,13 @@ promises-stamped : (r : Reading) (c : Clock) (l : List Line) → promise_lines (
 promises-stamped r c [] = refl
 promises-stamped r c (x ∷ l) = ap (λ (n : ℕ). one (is_promise x.1) + n) (promises-stamped r c l)
 
-promises-more : (a b : List LogLine) → promise_lines (a ++ b) ≡ promise_lines a + promise_lines b
-promises-more [] b = omega arith
-promises-more (log-line n x r c ∷ a) b = let e = promises-more a b in omega arith
-
 -- one call
 module _ (r : Run) where
   by_lines : (num : LeaseNum) (x : LeaseNotice) (o : Result Lines Refusal) (m : Manager)
       → promise_lines (stepped r (notice num x) (by_notice o m)).journal.log ≡ promise_lines r.journal.log + promises_in (A.Acted o)
   by_lines num x (Err k) m = omega arith
   by_lines num x (Ok lines) m =
-      let e = promises-more r.journal.log (stamped r.journal.now r.journal.clock (lines_of lines)) in
+      let e = promise_lines-append r.journal.log (stamped r.journal.now r.journal.clock (lines_of lines)) in
       let f = promises-stamped r.journal.now r.journal.clock (lines_of lines) in
       omega arith
 

@@ -24,6 +24,10 @@ use Rattle.lease_log.proofs.Sums.{sum_below, sum_below-cong, sum_below-add, sum_
 
 -- ---- lines at the end
 
+pub promise_lines-append : (a b : List LogLine) → promise_lines (a ++ b) ≡ promise_lines a + promise_lines b
+promise_lines-append [] b = omega arith
+promise_lines-append (log-line n x r c ∷ a) b = let e = promise_lines-append a b in omega arith
+
 or_assoc : (a b c : Bool) → a || (b || c) ≡ (a || b) || c
 or_assoc true b c = refl
 or_assoc false b c = refl
