@@ -62,14 +62,14 @@ pub enum Answer {
 }
 
 /// What a call answers, and the record that it returned or left.
-#[derive(Clone, Copy)]
+#[derive(Drop)]
 pub struct Made {
     pub answer: Answer,
     pub manager: Manager,
 }
 
 /// The record that a list of calls leads to, and how many Promise lines they answered.
-#[derive(Clone, Copy)]
+#[derive(Drop)]
 pub struct Ran {
     pub manager: Manager,
     pub promise_lines: u64,
@@ -77,7 +77,7 @@ pub struct Ran {
 
 /// Where a list of calls leads to from set-up: the record, what the questions answer on it, and how
 /// many Promise lines the calls answered.
-#[derive(Clone, Copy)]
+#[derive(Drop)]
 pub struct Ended {
     pub manager: Manager,
     pub grant_set: Result<Bitmap, Refusal>,

@@ -1,7 +1,7 @@
--- What a record that the check passes gives a refresh: no sent promise's deadline is far off.
--- Assumes nothing.
+-- What a record that the check passes gives: its ids have rows, and to a refresh, that no sent
+-- promise's deadline is far off. Assumes nothing.
 use Rattle.std.specs.Prelude.{Option, None, Some}
-use Prim.Native.Nat.{ℕ, ◌+◌}
+use Prim.Native.Nat.{ℕ, ◌+◌, ◌≤◌}
 use mathlib.Core.Path.{◌≡◌}
 use mathlib.Core.Bool.{Bool, true, false, cond, not, ◌&&◌}
 use native.Mathlib.Omega.{arith}
@@ -66,3 +66,6 @@ unfolding NearRows
 near m e i h =
     let few = (fits m e).few in
     near-at m.me m.population i m.now _ (row-of m.me m.population m.now m.peers capacity i (rows_of m e) (omega arith))
+
+pub few : (m : Manager) → record_valid m ≡ true → m.population ≤ capacity
+few m e = (fits m e).few

@@ -1,22 +1,18 @@
-// The calls about time on a record that is not refused: advance, quiet start, refresh, drift
-// setting (rules 8.1 to 8.6). Reading and quiet timer are two arguments, since advance asks of a
-// reading that is not the record's yet.
+// The calls about time on a record that is not refused, where it stands: advance, quiet start,
+// refresh, drift setting (rules 8.1 to 8.6). Reading and quiet timer are two arguments, since
+// advance asks of a reading that is not the record's yet.
 
-ghost use Rattle.std.specs.Prelude.{◌≡◌, ◌≤◌, ◌<◌};
+ghost use Rattle.std.specs.Prelude.{◌≡◌, ◌≤◌, ◌<◌, Ok};
 ghost use Rattle.lease.specs.Bitmaps.{capacity};
 ghost use Rattle.lease.specs.Calls.{quiet_fires, quiet_at, is_quiet, quiet_end, assume_unknown_grants, advance_to, attempt_refresh, clock_of, set_drift};
 ghost use Rattle.engine.specs.Fits.{NearRows};
-ghost use Rattle.engine.specs.Answers.{answered};
+ghost use Rattle.refusals.specs.Fits.{ManagerFits};
 
 use drift::floats::quotient;
-use lease::{
-    Advanced, Answered, Bitmap, Clock, LeaseAction, LeaseNum, Line, Manager, Passed, Reading,
-    Refusal, ReplicaId,
-};
-use peer_rows::each_row::{advance_row, refresh_row};
+use lease::{Advanced, Bitmap, Clock, LeaseAction, LeaseNum, Line, Manager, Reading, ReplicaId};
+use peer_rows::each_row::{Advance, Due, Refresh};
 use peer_rows::firing::fired_timers;
-use peer_rows::pass::{is_named, pass_over};
-use refusals::records::CheckedManager;
+use peer_rows::pass::{pass_over, sets_over};
 use timer::drifted_ns;
 
 /// Whether the quiet timer fires at the reading: its deadline is at or below it (rule 8.4).
@@ -51,91 +47,67 @@ pub fn quiet_end(fired: bool, own: ReplicaId, population: usize) -> Option<Line>
     fired.then_some(Line(LeaseNum(0), LeaseAction::GrantTimeout(next)))
 }
 
-/// What a call that may be refused answers: on a refusal the record that went in (rule 10.31).
-pub fn answered<T>(m: Manager, done: Result<Answered<T>, Refusal>) -> Answered<T>
-    ensures { result ≡ answered m done }
-{
-    done.unwrap_or_else(|refusal| Answered {
-        outcome: Err(refusal),
-        manager: m,
-    })
-}
-
-/// The record in quiet time: the quiet timer is armed for the drifted 2T, replacing an earlier one
-/// (rule 8.4).
+/// Quiet time starts: the quiet timer is armed for the drifted 2T, replacing an earlier one (rule
+/// 8.4).
 #[tactic(auto, unfolding(lease::specs::Calls::assume_unknown_grants))]
-pub fn start_quiet(checked: CheckedManager) -> Manager
-    ensures { result ≡ assume_unknown_grants checked.manager }
+pub fn start_quiet(m: &mut Manager)
+    requires { ManagerFits m.old }
+    ensures { m.new ≡ assume_unknown_grants m.old }
 {
-    let m = checked.manager;
     let by = drifted_ns(m.clock, 2 * m.expire_timeout);
-    Manager {
-        quiet_timer: Some(Reading(m.now.0 + by)),
-        ..m
-    }
+    m.quiet_timer = Some(Reading(m.now.0 + by));
 }
 
 /// Advance (rules 8.1 to 8.4): the reading is set, and each timer that is due explodes once. The
-/// fired list is ordered by the deadlines before they explode.
-#[tactic(auto, unfolding(lease::specs::Calls::advance_to, lease::specs::Calls::fired_by, lease::specs::Passes::pass_over))]
-pub fn advance_to(checked: CheckedManager, to: Reading) -> Answered<Advanced>
-    ensures { result ≡ advance_to checked.manager to }
+/// fired list is ordered by the deadlines before they explode, so it is made before they do. Where
+/// nothing is due the rows are only read.
+#[tactic(auto, using(peer_rows::proofs::NoneDue::none_due), unfolding(lease::specs::Calls::advance_to, lease::specs::Calls::fired_by, lease::specs::Passes::pass_over))]
+pub fn advance_to(m: &mut Manager, to: Reading) -> Advanced
+    requires { ManagerFits m.old }
+    ensures answer { (advance_to m.old to).outcome ≡ Ok result }
+    ensures record_after { m.new ≡ (advance_to m.old to).manager }
 {
-    let m = checked.manager;
-    let Passed {
-        peers,
-        first: sent,
-        second: held,
-        ..
-    } = pass_over(&m, |_, row| advance_row(to, row));
+    let (me, n) = (m.me, m.population);
+    let due = sets_over(&m.peers, me, n, &Due { to });
     let advanced = Advanced {
-        sent,
-        held,
-        quiet_end: quiet_end(quiet_fires(to, m.quiet_timer), m.me, m.population),
-        fired: fired_timers(m.peers, sent, held),
+        sent: due.first,
+        held: due.second,
+        quiet_end: quiet_end(quiet_fires(to, m.quiet_timer), me, n),
+        fired: fired_timers(&m.peers, due.first, due.second),
     };
-    Answered {
-        outcome: Ok(advanced),
-        manager: Manager {
-            now: to,
-            quiet_timer: quiet_at(to, m.quiet_timer),
-            peers,
-            ..m
-        },
+    if due.first.bits != 0 || due.second.bits != 0 {
+        pass_over(&mut m.peers, me, n, &Advance { to });
     }
+    m.quiet_timer = quiet_at(to, m.quiet_timer);
+    m.now = to;
+    advanced
 }
 
 /// `attempt_refresh` (rule 8.5): the promises to the marked peers that the set names are extended
 /// by T, drifted once for all of them.
 #[tactic(auto, unfolding(lease::specs::Calls::attempt_refresh, crate::specs::Fits::NearRows))]
-pub fn refresh(checked: CheckedManager, set: Option<Bitmap>) -> Answered<Bitmap>
-    requires { NearRows checked.manager }
-    ensures { result ≡ attempt_refresh checked.manager set }
+pub fn refresh(m: &mut Manager, set: Option<Bitmap>) -> Bitmap
+    requires fits { ManagerFits m.old }
+    requires near { NearRows m.old }
+    ensures answer { (attempt_refresh m.old set).outcome ≡ Ok result }
+    ensures record_after { m.new ≡ (attempt_refresh m.old set).manager }
 {
-    let m = checked.manager;
+    let (me, n, now) = (m.me, m.population, m.now);
     let by = drifted_ns(m.clock, m.expire_timeout);
-    let rule = |i, row| refresh_row(m.now, by, is_named(set, i), row);
-    let Passed { peers, first, .. } = pass_over(&m, rule);
-    Answered {
-        outcome: Ok(first),
-        manager: Manager { peers, ..m },
-    }
+    pass_over(&mut m.peers, me, n, &Refresh { set, now, by }).first
 }
 
-// The clock of a drift setting, in percent; none is a true clock.
-fn clock_of(setting: Option<i8>) -> Clock
+/// The clock of a drift setting, in percent; none is a true clock.
+pub fn clock_of(setting: Option<i8>) -> Clock
     ensures { result ≡ clock_of setting }
 {
     setting.map_or(Clock::True, |d| Clock::Drifting(quotient(d)))
 }
 
-/// The record with the clock of a drift setting, in percent (rule 8.6).
+/// The clock of a drift setting, in percent (rule 8.6).
 #[tactic(auto, unfolding(lease::specs::Calls::set_drift))]
-pub fn set_clock(m: Manager, setting: Option<i8>) -> Manager
-    ensures { result ≡ set_drift m setting }
+pub fn set_clock(m: &mut Manager, setting: Option<i8>)
+    ensures { m.new ≡ set_drift m.old setting }
 {
-    Manager {
-        clock: clock_of(setting),
-        ..m
-    }
+    m.clock = clock_of(setting);
 }

@@ -1,9 +1,11 @@
-// What a call that is not refused does to the record: notices, the calls about time, the questions;
-// and set-up.
+// The record in place: what a call that is not refused does to it, each call with its refusals on a
+// lent record, and set-up.
 #![tactic(auto)]
 
+pub mod calls;
 pub mod clock;
 pub mod lines;
 pub mod notices;
 pub mod questions;
 pub mod set_up;
+pub mod valid;

@@ -1,144 +1,132 @@
-// Notices on a checked record: the Rust's `handle_notice` and its `run`, whose loop is here one
-// call (rules 7.1 to 7.14).
+// Notices on the record where it stands: the Rust's `handle_notice` and its `run`, whose loop is
+// here one call (rules 7.1 to 7.14). Only the fields that change are written.
 
 ghost use Rattle.std.specs.Prelude.{◌≡◌, ◌<◌};
-ghost use Rattle.lease.specs.Notices.{on_peer, handle_new_grants, handle_do_revoke, handle_clear_held, handle_notice, raised_to, accepted_of};
+ghost use Rattle.lease.specs.Notices.{term_of, on_peer, handle_new_grants, handle_do_revoke, handle_clear_held, handle_notice, raised_to, accepted_of};
+ghost use Rattle.refusals.specs.Fits.{ManagerFits};
 ghost use Rattle.engine.specs.Fits.{PeerBelow};
 
 use crate::lines::{number_actions, reply_outdated};
 use lease::{
-    Accepted, Acted, Actions, Bar, Bitmap, Handled, LeaseAction, LeaseMsg, LeaseNotice, LeaseNum,
-    Manager, Passed, PeerNotice, ReplicaId, Term,
+    Actions, Bar, Bitmap, LeaseAction, LeaseMsg, LeaseNotice, LeaseNum, Lines, Manager, PeerNotice,
+    ReplicaId, Term,
 };
 use peer_rows::clearing::clear_below;
-use peer_rows::each_row::{clear_held_row, do_revoke_row, new_grants_row};
+use peer_rows::each_row::{ClearHeld, DoRevoke, NewGrants};
 use peer_rows::handlers::handle_peer_notice;
-use peer_rows::pass::{is_named, pass_over};
-use refusals::records::CheckedManager;
+use peer_rows::pass::pass_over;
+
+// What a notice's deadlines are worked out from.
+fn term_of(m: &Manager) -> Term
+    ensures { result ≡ term_of m.entry.now }
+{
+    Term {
+        clock: m.clock,
+        now: m.now,
+        expire_timeout: m.expire_timeout,
+    }
+}
 
 /// A notice about one peer (rules 7.7 to 7.13): that peer's row alone changes.
 #[tactic(auto, unfolding(lease::specs::Notices::on_peer))]
-pub fn update_row(checked: CheckedManager, id: ReplicaId, notice: PeerNotice) -> Acted
-    requires { id < checked.manager.population }
-    ensures { result ≡ on_peer checked.manager id notice }
+pub fn on_peer(m: &mut Manager, id: ReplicaId, notice: PeerNotice) -> Actions
+    requires fits { ManagerFits m.old }
+    requires below { id < m.old.population }
+    ensures actions { result ≡ (on_peer m.old id notice).actions }
+    ensures record_after { m.new ≡ (on_peer m.old id notice).manager }
 {
-    let mut manager = checked.manager;
-    let term = Term {
-        clock: manager.clock,
-        now: manager.now,
-        expire_timeout: manager.expire_timeout,
-    };
-    let Handled { peer, actions } = handle_peer_notice(term, id, notice, manager.peers[id]);
-    manager.peers[id] = peer;
-    Acted { actions, manager }
+    let term = term_of(m);
+    handle_peer_notice(term, id, notice, &mut m.peers[id])
 }
 
 /// NewGrants (rule 7.4): one Guard is broadcast to the peers that get a fresh guard, even when
 /// there are none.
 #[tactic(auto, unfolding(lease::specs::Notices::handle_new_grants))]
-pub fn handle_new_grants(checked: CheckedManager, set: Option<Bitmap>, bar: Option<Bar>) -> Acted
-    ensures { result ≡ handle_new_grants checked.manager set bar }
+pub fn handle_new_grants(m: &mut Manager, set: Option<Bitmap>, bar: Option<Bar>) -> Actions
+    requires { ManagerFits m.old }
+    ensures actions { result ≡ (handle_new_grants m.old set bar).actions }
+    ensures record_after { m.new ≡ (handle_new_grants m.old set bar).manager }
 {
-    let m = checked.manager;
-    let rule = |i, row| new_grants_row(is_named(set, i), row);
-    let Passed { peers, first, .. } = pass_over(&m, rule);
-    Acted {
-        actions: Actions::One(LeaseAction::BcastLeaseMsgs(first, LeaseMsg::Guard(bar))),
-        manager: Manager { peers, ..m },
-    }
+    let (me, n) = (m.me, m.population);
+    let marks = pass_over(&mut m.peers, me, n, &NewGrants { set });
+    Actions::One(LeaseAction::BcastLeaseMsgs(marks.first, LeaseMsg::Guard(bar)))
 }
 
 /// DoRevoke (rule 7.5): Revoke is broadcast to the peers whose sent promises are marked as
 /// revoking, if there are any.
 #[tactic(auto, unfolding(lease::specs::Notices::handle_do_revoke))]
-pub fn handle_do_revoke(checked: CheckedManager, set: Option<Bitmap>) -> Acted
-    ensures { result ≡ handle_do_revoke checked.manager set }
+pub fn handle_do_revoke(m: &mut Manager, set: Option<Bitmap>) -> Actions
+    requires { ManagerFits m.old }
+    ensures actions { result ≡ (handle_do_revoke m.old set).actions }
+    ensures record_after { m.new ≡ (handle_do_revoke m.old set).manager }
 {
-    let m = checked.manager;
-    let rule = |i, row| do_revoke_row(is_named(set, i), row);
-    let Passed { peers, first, .. } = pass_over(&m, rule);
-    let actions = if first.bits == 0 {
+    let (me, n) = (m.me, m.population);
+    let marks = pass_over(&mut m.peers, me, n, &DoRevoke { set });
+    if marks.first.bits == 0 {
         Actions::None
     } else {
-        Actions::One(LeaseAction::BcastLeaseMsgs(first, LeaseMsg::Revoke))
-    };
-    Acted {
-        actions,
-        manager: Manager { peers, ..m },
+        Actions::One(LeaseAction::BcastLeaseMsgs(marks.first, LeaseMsg::Revoke))
     }
 }
 
 /// ClearHeld (rule 7.6): LeaseCleared always.
 #[tactic(auto, unfolding(lease::specs::Notices::handle_clear_held))]
-pub fn handle_clear_held(checked: CheckedManager) -> Acted
-    ensures { result ≡ handle_clear_held checked.manager }
+pub fn handle_clear_held(m: &mut Manager) -> Actions
+    requires { ManagerFits m.old }
+    ensures actions { result ≡ (handle_clear_held m.old).actions }
+    ensures record_after { m.new ≡ (handle_clear_held m.old).manager }
 {
-    let m = checked.manager;
-    let Passed { peers, .. } = pass_over(&m, |_, row| clear_held_row(row));
-    Acted {
-        actions: Actions::One(LeaseAction::LeaseCleared),
-        manager: Manager { peers, ..m },
-    }
+    let (me, n) = (m.me, m.population);
+    pass_over(&mut m.peers, me, n, &ClearHeld);
+    Actions::One(LeaseAction::LeaseCleared)
 }
 
 // The Rust's `handle_notice`: a notice under the active number.
 #[tactic(auto, unfolding(lease::specs::Notices::handle_notice))]
-fn handle_notice(checked: CheckedManager, notice: LeaseNotice) -> Acted
-    requires { PeerBelow checked.manager.population notice }
-    ensures { result ≡ handle_notice checked.manager notice }
+fn handle_notice(m: &mut Manager, notice: LeaseNotice) -> Actions
+    requires fits { ManagerFits m.old }
+    requires below { PeerBelow m.old.population notice }
+    ensures actions { result ≡ (handle_notice m.old notice).actions }
+    ensures record_after { m.new ≡ (handle_notice m.old notice).manager }
 {
     match notice {
-        LeaseNotice::NewGrants(set, bar) => handle_new_grants(checked, set, bar),
-        LeaseNotice::DoRevoke(set) => handle_do_revoke(checked, set),
-        LeaseNotice::ClearHeld => handle_clear_held(checked),
-        LeaseNotice::RecvLeaseMsg(id, msg) => update_row(
-            checked,
-            id,
-            PeerNotice::RecvLeaseMsg(msg),
-        ),
-        LeaseNotice::GrantTimeout(id) => update_row(checked, id, PeerNotice::GrantTimeout),
-        LeaseNotice::LeaseTimeout(id) => update_row(checked, id, PeerNotice::LeaseTimeout),
+        LeaseNotice::NewGrants(set, bar) => handle_new_grants(m, set, bar),
+        LeaseNotice::DoRevoke(set) => handle_do_revoke(m, set),
+        LeaseNotice::ClearHeld => handle_clear_held(m),
+        LeaseNotice::RecvLeaseMsg(id, msg) => on_peer(m, id, PeerNotice::RecvLeaseMsg(msg)),
+        LeaseNotice::GrantTimeout(id) => on_peer(m, id, PeerNotice::GrantTimeout),
+        LeaseNotice::LeaseTimeout(id) => on_peer(m, id, PeerNotice::LeaseTimeout),
     }
 }
 
 // A higher number (rules 7.2, 7.3): all four tables emptied in one pass, and the number active.
 #[tactic(auto, using(peer_rows::proofs::ClearingClaims::raised))]
-fn raise(checked: CheckedManager, num: LeaseNum) -> CheckedManager
-    ensures { result.manager ≡ raised_to checked.manager num }
+fn raise(m: &mut Manager, num: LeaseNum)
+    requires { ManagerFits m.old }
+    ensures record_after { m.new ≡ raised_to m.old num }
+    ensures fits { ManagerFits m.new }
 {
-    let m = checked.manager;
-    let mut peers = m.peers;
-    clear_below(&mut peers, m.population);
-    let manager = Manager {
-        active_num: num,
-        peers,
-        ..m
-    };
-    CheckedManager { manager }
+    let n = m.population;
+    clear_below(&mut m.peers, n);
+    m.active_num = num;
 }
 
 /// One turn of the Rust's `run`: under a lower number nothing changes (rule 7.1), a higher number
 /// is raised to first (rule 7.2), then the notice is handled.
 #[tactic(auto, unfolding(lease::specs::Notices::accepted_of, lease::specs::Notices::raised_to))]
-pub fn run(checked: CheckedManager, num: LeaseNum, notice: LeaseNotice) -> Accepted
-    requires { PeerBelow checked.manager.population notice }
-    ensures { result ≡ accepted_of checked.manager num notice }
+pub fn run(m: &mut Manager, num: LeaseNum, notice: LeaseNotice) -> Lines
+    requires fits { ManagerFits m.old }
+    requires below { PeerBelow m.old.population notice }
+    ensures lines { result ≡ (accepted_of m.old num notice).lines }
+    ensures record_after { m.new ≡ (accepted_of m.old num notice).manager }
 {
-    let active_num = checked.manager.active_num;
+    let active_num = m.active_num;
     if num < active_num {
-        return Accepted {
-            lines: number_actions(num, false, reply_outdated(notice)),
-            manager: checked.manager,
-        };
+        return number_actions(num, false, reply_outdated(notice));
     }
     let higher = active_num < num;
-    let acted = if higher {
-        handle_notice(raise(checked, num), notice)
-    } else {
-        handle_notice(checked, notice)
-    };
-    Accepted {
-        lines: number_actions(num, higher, acted.actions),
-        manager: acted.manager,
+    if higher {
+        raise(m, num);
     }
+    number_actions(num, higher, handle_notice(m, notice))
 }

@@ -14,8 +14,8 @@ fn is_slow(t: u64, heartbeat: u64) -> bool
     t <= heartbeat.saturating_mul(2)
 }
 
-// Refusals 1 to 5 in this order (rules 10.1 to 10.5, 10.30).
-fn check_set_up(
+/// Set-up's refusals 1 to 5 in this order (rules 10.1 to 10.5, 10.30); `t` and `heartbeat` in ns.
+pub fn check_set_up(
     me: ReplicaId,
     n: usize,
     t: u64,
@@ -42,10 +42,10 @@ fn check_set_up(
     Ok(())
 }
 
-// What set-up starts with (rule 6.2): number 0, all four tables and the marks empty, outside quiet
-// time, a true clock.
+/// What set-up starts with (rule 6.2): number 0, all four tables and the marks empty, outside quiet
+/// time, a true clock.
 #[tactic(auto, unfolding(lease::specs::SetUp::fresh))]
-fn fresh_manager(me: ReplicaId, n: usize, t: u64, now: Reading) -> Manager
+pub fn fresh_manager(me: ReplicaId, n: usize, t: u64, now: Reading) -> Manager
     ensures { result ≡ fresh me n t now }
 {
     let empty = Peer {

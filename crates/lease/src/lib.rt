@@ -4,7 +4,6 @@
 
 ghost use Rattle.std.specs.Prelude.{[], ◌≡◌};
 ghost use Rattle.lease.specs.Fired.{fired_array};
-ghost use Rattle.lease.specs.Handlers.{no_action, one_action, two_actions};
 ghost use Rattle.lease.specs.Refusals.{refusal_number};
 
 pub mod laws;
@@ -173,45 +172,13 @@ pub enum Lines {
     Three(Line, Line, Line),
 }
 
-// ---- what the handlers and the passes give
+// ---- what the rules give, with the next row or record beside it
 
 /// What a notice about one peer makes of that peer's row, and its actions.
 #[derive(Clone, Copy)]
 pub struct Handled {
     pub peer: Peer,
     pub actions: Actions,
-}
-
-impl Handled {
-    /// A handler ends with no action.
-    pub fn no_action(peer: Peer) -> Handled
-        ensures { result ≡ no_action peer }
-    {
-        Handled {
-            peer,
-            actions: Actions::None,
-        }
-    }
-
-    /// A handler ends with one action.
-    pub fn one_action(peer: Peer, action: LeaseAction) -> Handled
-        ensures { result ≡ one_action peer action }
-    {
-        Handled {
-            peer,
-            actions: Actions::One(action),
-        }
-    }
-
-    /// A handler ends with two actions, in this order.
-    pub fn two_actions(peer: Peer, first: LeaseAction, second: LeaseAction) -> Handled
-        ensures { result ≡ two_actions peer first second }
-    {
-        Handled {
-            peer,
-            actions: Actions::Two(first, second),
-        }
-    }
 }
 
 /// What a pass makes of one row.
@@ -226,7 +193,7 @@ pub struct Visit {
 }
 
 /// What a pass makes of all rows.
-#[derive(Clone, Copy)]
+#[derive(Drop)]
 pub struct Passed {
     pub peers: [Peer; ROWS],
     /// Of advance: the peers whose sent timers fired. Of the other passes: the peers that were
@@ -239,14 +206,14 @@ pub struct Passed {
 }
 
 /// A notice's actions before they are numbered, and the next record.
-#[derive(Clone, Copy)]
+#[derive(Drop)]
 pub struct Acted {
     pub actions: Actions,
     pub manager: Manager,
 }
 
 /// A notice that is not refused: its lines, and the next record.
-#[derive(Clone, Copy)]
+#[derive(Drop)]
 pub struct Accepted {
     pub lines: Lines,
     pub manager: Manager,
@@ -356,7 +323,7 @@ pub struct Advanced {
 /// The answer of a call by value: its outcome, and the next record. Where it is refused, that is
 /// the record that went in (rule 10.31); of a refused set-up, one that every call refuses (rule
 /// 6.3).
-#[derive(Clone, Copy)]
+#[derive(Drop)]
 pub struct Answered<T> {
     pub outcome: Result<T, Refusal>,
     pub manager: Manager,

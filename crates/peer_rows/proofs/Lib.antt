@@ -2,5 +2,7 @@
 pub mod ClearingClaims
 pub mod ClearingExamples
 pub mod Place
+pub mod Put
 pub mod Sorting
 pub mod Sides
+pub mod NoneDue

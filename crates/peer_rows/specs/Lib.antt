@@ -1,4 +1,6 @@
 pub mod Fits
+pub mod Rules
+pub mod Marks
 pub mod Clearing
 pub mod ClearingClaims
 pub mod ClearingExamples

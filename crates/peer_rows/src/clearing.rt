@@ -7,14 +7,15 @@ ghost use Rattle.lease.specs.Bitmaps.{capacity};
 ghost use Rattle.lease.specs.Passes.{higher_number_row};
 ghost use Rattle.peer_rows.specs.Clearing.{ClearedBelow};
 
-use crate::entries::{none_held, none_sent};
+use crate::entries::{drop_held, drop_sent};
 use lease::{Peer, ROWS};
 
 // One turn: the id's entries in all four tables go, the mark stays.
-fn cleared_row(row: Peer) -> Peer
-    ensures { result ≡ (higher_number_row row).peer }
+fn clear_row(row: &mut Peer)
+    ensures { row.new ≡ (higher_number_row row.old).peer }
 {
-    none_held(none_sent(row))
+    drop_sent(row);
+    drop_held(row);
 }
 
 /// Clears the rows of the ids below `k`, as a higher number asks for the ids below the population.
@@ -23,6 +24,6 @@ pub fn clear_below(peers: &mut [Peer; ROWS], k: usize)
     ensures { ClearedBelow k peers.old peers.new }
 {
     for row in peers[..k].iter_mut() {
-        *row = cleared_row(*row);
+        clear_row(row);
     }
 }

@@ -1,131 +1,282 @@
-// The rules about many peers, on each peer's row: what a pass makes of the row, and whether its id
-// is in the pass's sets. `named` says whether the call's set has the id. (A higher number's pass
-// stands in clearing.)
+// The rules about many peers, each on one peer's row: what it writes there, or only reads, and
+// whether the row's id is in the pass's sets. `pass` takes them over the rows. (A higher number's
+// pass stands in clearing.)
 
-ghost use Rattle.std.specs.Prelude.{◌≡◌, ◌≤◌};
-ghost use Rattle.lease.specs.Passes.{new_grants_row, do_revoke_row, clear_held_row, granted_row, expired_entry, fires_entry, advance_row, leased_row, refresh_row};
-ghost use Rattle.lease.specs.Drift.{longest};
-ghost use Rattle.lease.specs.Timers.{max_reading};
-ghost use Rattle.peer_rows.specs.Fits.{NearGrant};
+ghost use Rattle.std.specs.Prelude.{◌≡◌, false};
+ghost use Rattle.lease.specs.declared.Peer.{Peer};
+ghost use Rattle.lease.specs.Pass.{Pass};
+ghost use Rattle.lease.specs.Passes.{named, pass_row, expired_entry, fires_entry, expired_grant, fires_grant};
+ghost use Rattle.peer_rows.specs.Fits.{AnyRow, Refreshable};
+ghost use Rattle.peer_rows.specs.Rules.{new_grants_pass, do_revoke_pass, clear_held_pass, advance_pass, refresh_pass, granted_pass, everyone_pass, leased_pass};
 
-use crate::entries::{in_first, in_none, is_active, none_held, promise_timer};
-use lease::{Peer, Reading, Timer, Visit};
+use crate::entries::{drop_held, is_active, promise_timer};
+use bitmap::is_one;
+use lease::{Bitmap, Peer, Reading, Timer};
 use timer::extend;
-use timer::read::{expire, exploded};
+use timer::read::exploded;
+
+/// Whether a row's id is in a pass's first set, and in its second.
+#[derive(Clone, Copy)]
+pub struct InSets {
+    pub first: bool,
+    pub second: bool,
+}
+
+impl InSets {
+    /// In neither set.
+    pub const NONE: InSets = InSets {
+        first: false,
+        second: false,
+    };
+
+    // In the first set if `is` holds, and not in the second.
+    fn first_if(is: bool) -> InSets
+        ensures first { result.first ≡ is }
+        ensures second { result.second ≡ false }
+    {
+        InSets {
+            first: is,
+            second: false,
+        }
+    }
+}
+
+/// Whether the set has the id; no set names every id.
+pub fn is_named(set: Option<Bitmap>, i: usize) -> bool
+    ensures { result ≡ named set i }
+{
+    set.is_none_or(|ids| is_one(ids, i))
+}
+
+// ---- rules that write
+
+/// A rule that may write each peer's row.
+pub trait Rule {
+    ghost pass: { Self → Pass };
+
+    ghost fits: { Self → Peer → Type 0 };
+
+    /// The rule on the row of the peer `i`: only the fields that change are written.
+    fn visit(&self, i: usize, row: &mut Peer) -> InSets
+        requires { fits self.now row.old }
+        ensures row_after { row.new ≡ (pass_row (pass self.now) i row.old).peer }
+        ensures first { result.first ≡ (pass_row (pass self.now) i row.old).first }
+        ensures second { result.second ≡ (pass_row (pass self.now) i row.old).second };
+}
 
 /// NewGrants (rule 7.4): a named peer without a promise sent gets a fresh sent guard, unarmed.
-pub fn new_grants_row(named: bool, row: Peer) -> Visit
-    ensures { result ≡ new_grants_row named row }
-{
-    if named && row.promise_sent.is_none() {
-        let guarded = Peer {
-            guard_sent: Some(Timer::Unarmed),
-            ..row
-        };
-        return in_first(true, guarded);
+#[derive(Clone, Copy)]
+pub struct NewGrants {
+    pub set: Option<Bitmap>,
+}
+
+impl Rule for NewGrants {
+    ghost pass = { λ r. new_grants_pass r.set };
+
+    ghost fits = { λ r. AnyRow };
+
+    fn visit(&self, i: usize, row: &mut Peer) -> InSets {
+        let guarded = is_named(self.set, i) && row.promise_sent.is_none();
+        if guarded {
+            row.guard_sent = Some(Timer::Unarmed);
+        }
+        InSets::first_if(guarded)
     }
-    in_none(row)
 }
 
 /// DoRevoke (rule 7.5): a named peer's sent guard is dropped, and its sent promise marked as
 /// revoking.
-pub fn do_revoke_row(named: bool, row: Peer) -> Visit
-    ensures { result ≡ do_revoke_row named row }
-{
-    if !named {
-        return in_none(row);
+#[derive(Clone, Copy)]
+pub struct DoRevoke {
+    pub set: Option<Bitmap>,
+}
+
+impl Rule for DoRevoke {
+    ghost pass = { λ r. do_revoke_pass r.set };
+
+    ghost fits = { λ r. AnyRow };
+
+    fn visit(&self, i: usize, row: &mut Peer) -> InSets {
+        if !is_named(self.set, i) {
+            return InSets::NONE;
+        }
+        row.guard_sent = None;
+        let Some((timer, _)) = row.promise_sent else {
+            return InSets::NONE;
+        };
+        row.promise_sent = Some((timer, true));
+        InSets::first_if(true)
     }
-    let revoked = Peer {
-        guard_sent: None,
-        promise_sent: row.promise_sent.map(|(timer, _)| (timer, true)),
-        ..row
-    };
-    in_first(row.promise_sent.is_some(), revoked)
 }
 
 /// ClearHeld (rule 7.6): both held tables are emptied.
-pub fn clear_held_row(row: Peer) -> Visit
-    ensures { result ≡ clear_held_row row }
-{
-    in_none(none_held(row))
-}
+#[derive(Clone, Copy)]
+pub struct ClearHeld;
 
-/// `grant_set` outside quiet time (rule 9.1): whether the peer has a promise sent, revoking or
-/// exploded ones included.
-pub fn granted_row(row: Peer) -> Visit
-    ensures { result ≡ granted_row row }
-{
-    in_first(row.promise_sent.is_some(), row)
-}
+impl Rule for ClearHeld {
+    ghost pass = { λ r. clear_held_pass };
 
-// The entry's timer once the reading is reached (rule 4.5).
-fn expired_entry(now: Reading, entry: Option<Timer>) -> Option<Timer>
-    ensures { result ≡ expired_entry now entry }
-{
-    entry.map(|timer| expire(now, timer).timer)
-}
+    ghost fits = { λ r. AnyRow };
 
-// Whether the entry's timer fires at the reading (rule 4.5).
-fn fires(now: Reading, entry: Option<Timer>) -> bool
-    ensures { result ≡ fires_entry now entry }
-{
-    entry.is_some_and(|timer| expire(now, timer).fired)
+    fn visit(&self, i: usize, row: &mut Peer) -> InSets {
+        drop_held(row);
+        InSets::NONE
+    }
 }
 
 /// Advance (rules 8.1, 8.2): each armed timer with deadline at or below the reading explodes once.
 /// The first set is of sent timers, the second of held ones.
-pub fn advance_row(now: Reading, row: Peer) -> Visit
-    ensures { result ≡ advance_row now row }
-{
-    let promise = promise_timer(row.promise_sent);
-    let first = fires(now, row.guard_sent) || fires(now, promise);
-    let second = fires(now, row.guard_held) || fires(now, row.promise_held);
-    let peer = Peer {
-        guard_sent: expired_entry(now, row.guard_sent),
-        promise_sent: row
-            .promise_sent
-            .map(|(timer, revoking)| (expire(now, timer).timer, revoking)),
-        guard_held: expired_entry(now, row.guard_held),
-        promise_held: expired_entry(now, row.promise_held),
-        ..row
-    };
-    Visit {
-        peer,
-        first,
-        second,
-    }
+#[derive(Clone, Copy)]
+pub struct Advance {
+    pub to: Reading,
 }
 
-/// `lease_set` (rule 9.2): whether the promise held from the peer is active.
-pub fn leased_row(now: Reading, row: Peer) -> Visit
-    ensures { result ≡ leased_row now row }
+// Explodes the entry's timer once its deadline is reached (rule 4.5), and says whether it fired.
+fn expire_entry(to: Reading, entry: &mut Option<Timer>) -> bool
+    ensures fired { result ≡ fires_entry to entry.old }
+    ensures entry_after { entry.new ≡ expired_entry to entry.old }
 {
-    in_first(is_active(now, row.promise_held), row)
+    let fires = is_due(to, *entry);
+    if fires {
+        *entry = Some(Timer::Exploded);
+    }
+    fires
+}
+
+// The same of a sent promise; whether it is being revoked stays.
+fn expire_grant(to: Reading, grant: &mut Option<(Timer, bool)>) -> bool
+    ensures fired { result ≡ fires_grant to grant.old }
+    ensures grant_after { grant.new ≡ expired_grant to grant.old }
+{
+    if let Some((timer, revoking)) = *grant {
+        if is_due(to, Some(timer)) {
+            *grant = Some((Timer::Exploded, revoking));
+            return true;
+        }
+    }
+    false
+}
+
+impl Rule for Advance {
+    ghost pass = { λ r. advance_pass r.to };
+
+    ghost fits = { λ r. AnyRow };
+
+    fn visit(&self, i: usize, row: &mut Peer) -> InSets {
+        let guard_sent = expire_entry(self.to, &mut row.guard_sent);
+        let promise_sent = expire_grant(self.to, &mut row.promise_sent);
+        let guard_held = expire_entry(self.to, &mut row.guard_held);
+        let promise_held = expire_entry(self.to, &mut row.promise_held);
+        InSets {
+            first: guard_sent || promise_sent,
+            second: guard_held || promise_held,
+        }
+    }
 }
 
 /// `attempt_refresh` (rule 8.5): a named, marked peer with a sent promise loses its mark; the
 /// promise is extended by `by` ns, T as the clock has it, unless it is revoking or exploded.
-pub fn refresh_row(now: Reading, by: u64, named: bool, row: Peer) -> Visit
-    requires le_max_reading { now.0 ≤ max_reading }
-    requires by_le_longest { by ≤ longest }
-    requires near_grant { NearGrant now row.promise_sent }
-    ensures { result ≡ refresh_row now by named row }
-{
-    match row.promise_sent {
-        Some((timer, revoking)) if named && row.refresh_mark => {
-            let unmarked = Peer {
-                refresh_mark: false,
-                ..row
-            };
-            if revoking || exploded(timer) {
-                return in_none(unmarked);
-            }
-            let extended = Peer {
-                promise_sent: Some((extend(now, by, timer), false)),
-                ..unmarked
-            };
-            in_first(true, extended)
+#[derive(Clone, Copy)]
+pub struct Refresh {
+    pub set: Option<Bitmap>,
+    pub now: Reading,
+    pub by: u64,
+}
+
+impl Rule for Refresh {
+    ghost pass = { λ r. refresh_pass r.set r.now r.by };
+
+    ghost fits = { λ r. Refreshable r.now r.by };
+
+    fn visit(&self, i: usize, row: &mut Peer) -> InSets {
+        let Some((timer, revoking)) = row.promise_sent else {
+            return InSets::NONE;
+        };
+        if !row.refresh_mark || !is_named(self.set, i) {
+            return InSets::NONE;
         }
-        _ => in_none(row),
+        row.refresh_mark = false;
+        if revoking || exploded(timer) {
+            return InSets::NONE;
+        }
+        row.promise_sent = Some((extend(self.now, self.by, timer), false));
+        InSets::first_if(true)
+    }
+}
+
+// ---- rules that only read
+
+/// A rule that asks of each peer's row whether its id is in the pass's sets.
+pub trait Look {
+    ghost pass: { Self → Pass };
+
+    /// The rule on the row of the peer `i`.
+    fn look(&self, i: usize, row: &Peer) -> InSets
+        ensures first { result.first ≡ (pass_row (pass self.now) i row.now).first }
+        ensures second { result.second ≡ (pass_row (pass self.now) i row.now).second };
+}
+
+// Whether the entry's timer fires at the reading: it is armed, and its deadline is reached (rule
+// 4.5).
+fn is_due(to: Reading, entry: Option<Timer>) -> bool
+    ensures { result ≡ fires_entry to entry }
+{
+    matches!(entry, Some(Timer::Armed(deadline)) if deadline <= to)
+}
+
+/// Which sides of a row have a timer that an advance to the reading explodes (rule 8.2).
+#[derive(Clone, Copy)]
+pub struct Due {
+    pub to: Reading,
+}
+
+impl Look for Due {
+    ghost pass = { λ r. advance_pass r.to };
+
+    fn look(&self, i: usize, row: &Peer) -> InSets {
+        let promise = promise_timer(row.promise_sent);
+        InSets {
+            first: is_due(self.to, row.guard_sent) | is_due(self.to, promise),
+            second: is_due(self.to, row.guard_held) | is_due(self.to, row.promise_held),
+        }
+    }
+}
+
+/// `grant_set` outside quiet time (rule 9.1): whether the peer has a promise sent, revoking or
+/// exploded ones included.
+#[derive(Clone, Copy)]
+pub struct Granted;
+
+impl Look for Granted {
+    ghost pass = { λ r. granted_pass };
+
+    fn look(&self, i: usize, row: &Peer) -> InSets {
+        InSets::first_if(row.promise_sent.is_some())
+    }
+}
+
+/// `grant_set` in quiet time (rule 9.1): every peer.
+#[derive(Clone, Copy)]
+pub struct Everyone;
+
+impl Look for Everyone {
+    ghost pass = { λ r. everyone_pass };
+
+    fn look(&self, i: usize, row: &Peer) -> InSets {
+        InSets::first_if(true)
+    }
+}
+
+/// `lease_set` (rule 9.2): whether the promise held from the peer is active.
+#[derive(Clone, Copy)]
+pub struct Leased {
+    pub now: Reading,
+}
+
+impl Look for Leased {
+    ghost pass = { λ r. leased_pass r.now };
+
+    fn look(&self, i: usize, row: &Peer) -> InSets {
+        InSets::first_if(is_active(self.now, row.promise_held))
     }
 }

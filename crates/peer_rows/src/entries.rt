@@ -1,33 +1,25 @@
-// One id's row (rule 5.2): what the rules ask of its entries, the row with one side emptied, and
-// the row as a pass gives it back.
+// One id's row (rule 5.2): what the rules ask of its entries, and the row with one side emptied.
 
 ghost use Rattle.std.specs.Prelude.{◌≡◌, None};
 ghost use Rattle.lease.specs.Rows.{with_held, with_sent, unexploded, promise_timer, active_entry};
-ghost use Rattle.lease.specs.Passes.{in_none, in_first};
 
-use lease::{Peer, Reading, Timer, Visit};
+use lease::{Peer, Reading, Timer};
 use timer::read::{active, exploded};
 
-/// The row with its entries of both held tables gone.
-pub fn none_held(row: Peer) -> Peer
-    ensures { result ≡ with_held row None None }
+/// Drops the entries of both held tables.
+pub fn drop_held(row: &mut Peer)
+    ensures { row.new ≡ with_held row.old None None }
 {
-    Peer {
-        guard_held: None,
-        promise_held: None,
-        ..row
-    }
+    row.guard_held = None;
+    row.promise_held = None;
 }
 
-/// The row with its entries of both sent tables gone; the refresh mark outlives them (rule 1.7).
-pub fn none_sent(row: Peer) -> Peer
-    ensures { result ≡ with_sent row None None row.refresh_mark }
+/// Drops the entries of both sent tables; the refresh mark outlives them (rule 1.7).
+pub fn drop_sent(row: &mut Peer)
+    ensures { row.new ≡ with_sent row.old None None row.old.refresh_mark }
 {
-    Peer {
-        guard_sent: None,
-        promise_sent: None,
-        ..row
-    }
+    row.guard_sent = None;
+    row.promise_sent = None;
 }
 
 /// Whether there is a timer that is not exploded: an unarmed one counts as not exploded (rule
@@ -50,22 +42,4 @@ pub fn is_active(now: Reading, entry: Option<Timer>) -> bool
     ensures { result ≡ active_entry now entry }
 {
     entry.is_some_and(|timer| active(now, timer))
-}
-
-/// The row, its id in neither of the pass's two sets.
-pub fn in_none(row: Peer) -> Visit
-    ensures { result ≡ in_none row }
-{
-    in_first(false, row)
-}
-
-/// The row, its id in the pass's first set if `is` holds, and not in the second.
-pub fn in_first(is: bool, row: Peer) -> Visit
-    ensures { result ≡ in_first is row }
-{
-    Visit {
-        peer: row,
-        first: is,
-        second: false,
-    }
 }

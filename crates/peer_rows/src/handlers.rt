@@ -9,15 +9,16 @@ use crate::held::{handle_lease_timeout, handle_msg_guard, handle_msg_promise, ha
 use crate::sent::{
     handle_grant_timeout, handle_msg_guard_reply, handle_msg_promise_reply, handle_msg_revoke_reply,
 };
-use lease::{Handled, LeaseMsg, Peer, PeerNotice, ReplicaId, Term};
+use lease::{Actions, LeaseMsg, Peer, PeerNotice, ReplicaId, Term};
 use timer::kickoff;
 
 /// A notice about the peer `id`, on that peer's row. A promise sent runs for 2T, all else for T; 2T
 /// is one duration, drifted once (rules 1.3, 7.8).
 #[tactic(auto, unfolding(lease::specs::Handlers::handle_msg, lease::specs::Handlers::handle_peer_notice))]
-pub fn handle_peer_notice(term: Term, id: ReplicaId, notice: PeerNotice, row: Peer) -> Handled
+pub fn handle_peer_notice(term: Term, id: ReplicaId, notice: PeerNotice, row: &mut Peer) -> Actions
     requires { TermFits term }
-    ensures { result ≡ handle_peer_notice term id notice row }
+    ensures actions { result ≡ (handle_peer_notice term id notice row.old).actions }
+    ensures row_after { row.new ≡ (handle_peer_notice term id notice row.old).peer }
 {
     let timeout = term.expire_timeout;
     let kicked_off = |ns| kickoff(term.clock, term.now, ns);

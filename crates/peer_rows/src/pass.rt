@@ -1,51 +1,93 @@
-// The loop that takes a rule of each_row over the rows of a record, the own id's left out.
+// The loops that take a rule of each_row over the rows of a record, the own id's left out: one that
+// writes the rows where they stand, and one that only reads them.
 
 ghost use Rattle.std.specs.Prelude.{◌≡◌, ◌≤◌, ◌<◌, ℕ};
 ghost use Rattle.lease.specs.Bitmaps.{capacity};
-ghost use Rattle.lease.specs.Notices.{pass_on};
-ghost use Rattle.lease.specs.Pass.{Pass};
-ghost use Rattle.lease.specs.Passes.{named};
+ghost use Rattle.lease.specs.Passes.{pass_over, visit_of};
 ghost use Rattle.lease.specs.Rows.{row_at};
-ghost use Rattle.peer_rows.specs.Fits.{Computes};
+ghost use Rattle.peer_rows.specs.Marks.{marks_of};
 
-use crate::entries::in_none;
-use bitmap::{is_one, none, with_id};
-use lease::{Bitmap, Manager, Passed, Peer, Visit};
+use crate::each_row::{InSets, Look, Rule};
+use bitmap::{none, with_id};
+use lease::{Bitmap, Peer, ROWS, ReplicaId};
 
-/// Whether the set has the id; no set names every id.
-pub fn is_named(set: Option<Bitmap>, i: usize) -> bool
-    ensures { result ≡ named set i }
-{
-    set.is_none_or(|ids| is_one(ids, i))
+/// What a pass answers beside the rows.
+#[derive(Clone, Copy)]
+pub struct Marks {
+    /// Of advance: the peers whose sent timers fired. Of the other passes: the peers that were
+    /// taken.
+    pub first: Bitmap,
+    /// Of advance: the peers whose held timers fired. Of the other passes: empty.
+    pub second: Bitmap,
+    /// How many ids the first set has.
+    pub count: u64,
 }
 
-/// One pass over the ids of the record: the rule is applied to each row below the population but
-/// the own id's; the other rows stay. `first` and `second` have the ids that the rule puts there,
-/// `count` is the size of `first`.
-pub fn pass_over<F: Fn(usize, Peer) -> Visit>(m: &Manager, rule: F) -> Passed
-    requires population_le_capacity { m.now.population ≤ capacity }
-    requires rows_fit { (i : ℕ) → i < m.now.population → F.pre rule i (row_at m.now.peers i) }
-    ensures { (pass : Pass) → Computes (F.post rule) pass → result ≡ pass_on m.entry.now pass }
+/// The rule at the id `i`: the own id's row stays.
+pub fn visit_at<R: Rule>(rule: &R, me: ReplicaId, i: usize, row: &mut Peer) -> InSets
+    requires { R.fits rule.now row.old }
+    ensures row_after { row.new ≡ (visit_of (R.pass rule.now) me i row.old).peer }
+    ensures first { result.first ≡ (visit_of (R.pass rule.now) me i row.old).first }
+    ensures second { result.second ≡ (visit_of (R.pass rule.now) me i row.old).second }
 {
-    let n = m.population;
-    let mut rows = m.peers;
+    if i == me {
+        return InSets::NONE;
+    }
+    rule.visit(i, row)
+}
+
+/// One pass over the ids below `n`: the rule is taken to their rows, but not to the own id's; the
+/// other rows stay.
+pub fn pass_over<R: Rule>(rows: &mut [Peer; ROWS], me: ReplicaId, n: usize, rule: &R) -> Marks
+    requires n_le_capacity { n ≤ capacity }
+    requires rows_fit { (i : ℕ) → i < n → R.fits rule.now (row_at rows.old i) }
+    ensures rows_after { rows.new ≡ (pass_over (R.pass rule.now) me n rows.old).peers }
+    ensures marks { result ≡ marks_of (pass_over (R.pass rule.now) me n rows.old) }
+{
     // At most the capacity, so the cast loses nothing.
     let mut first = none(n as u8);
     let mut second = none(n as u8);
     let mut count: u64 = 0;
     for (i, row) in rows[..n].iter_mut().enumerate() {
-        let visit = if i == m.me {
-            in_none(*row)
-        } else {
-            rule(i, *row)
-        };
-        *row = visit.peer;
-        first = with_id(first, visit.first, i);
-        second = with_id(second, visit.second, i);
-        count += u64::from(visit.first);
+        let sets = visit_at(rule, me, i, row);
+        first = with_id(first, sets.first, i);
+        second = with_id(second, sets.second, i);
+        count += u64::from(sets.first);
     }
-    Passed {
-        peers: rows,
+    Marks {
+        first,
+        second,
+        count,
+    }
+}
+
+/// The rule at the id `i`: the own id is in no set.
+pub fn look_at<L: Look>(rule: &L, me: ReplicaId, i: usize, row: &Peer) -> InSets
+    ensures first { result.first ≡ (visit_of (L.pass rule.now) me i row.now).first }
+    ensures second { result.second ≡ (visit_of (L.pass rule.now) me i row.now).second }
+{
+    if i == me {
+        return InSets::NONE;
+    }
+    rule.look(i, row)
+}
+
+/// The sets of a pass over the ids below `n` that leaves the rows as they are.
+pub fn sets_over<L: Look>(rows: &[Peer; ROWS], me: ReplicaId, n: usize, rule: &L) -> Marks
+    requires { n ≤ capacity }
+    ensures marks { result ≡ marks_of (pass_over (L.pass rule.now) me n rows.now) }
+    ensures few { result.count ≤ n }
+{
+    let mut first = none(n as u8);
+    let mut second = none(n as u8);
+    let mut count: u64 = 0;
+    for (i, row) in rows[..n].iter().enumerate() {
+        let sets = look_at(rule, me, i, row);
+        first = with_id(first, sets.first, i);
+        second = with_id(second, sets.second, i);
+        count += u64::from(sets.first);
+    }
+    Marks {
         first,
         second,
         count,

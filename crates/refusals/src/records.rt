@@ -14,15 +14,6 @@ use crate::rows::is_valid_at;
 use drift::clocks::is_quotient;
 use lease::{Clock, Manager, Refusal};
 
-/// A record that the check passed: its numbers are within set-up's limits, and the own id's row is
-/// empty.
-#[derive(Clone, Copy)]
-pub struct CheckedManager {
-    /// The record.
-    pub manager: Manager,
-    ghost fits: { ManagerFits manager },
-}
-
 // The quiet timer's deadline, where there is one, as any other.
 fn is_valid_quiet(m: &Manager) -> bool
     ensures { result ≡ quiet_valid m.entry.now.now m.entry.now.quiet_timer }
@@ -38,7 +29,7 @@ fn are_valid_rows(m: &Manager) -> bool
     m.peers
         .iter()
         .enumerate()
-        .all(|(i, row)| is_valid_at(m, i, *row))
+        .all(|(i, row)| is_valid_at(m, i, row))
 }
 
 // Set-up's limits.
@@ -64,19 +55,20 @@ fn is_valid_clock(clock: Clock) -> bool
 
 /// Whether the record is a manager's: limits, rows, clock and quiet timer.
 #[tactic(auto, unfolding(lease::specs::RecordCheck::record_valid))]
-pub fn is_valid_record(m: Manager) -> bool
-    ensures { result ≡ record_valid m }
+pub fn is_valid_record(m: &Manager) -> bool
+    ensures { result ≡ record_valid m.entry.now }
 {
-    are_valid_limits(&m) && are_valid_rows(&m) && is_valid_clock(m.clock) && is_valid_quiet(&m)
+    are_valid_limits(m) && are_valid_rows(m) && is_valid_clock(m.clock) && is_valid_quiet(m)
 }
 
-/// The record, where the check passes it; else refusal 15.
-pub fn check_record(m: Manager) -> Result<CheckedManager, Refusal>
-    ensures passed { IfOk result (λ checked. (checked.manager ≡ m) × (record_valid m ≡ true)) }
-    ensures refused { IfErr result (λ refusal. (refusal ≡ InvalidRecord) × (record_valid m ≡ false)) }
+/// Refusal 15 where the check does not pass the record; the numbers of one that passes are within
+/// set-up's limits.
+pub fn check_record(m: &Manager) -> Result<(), Refusal>
+    ensures passed { IfOk result (λ nothing. (record_valid m.entry.now ≡ true) × ManagerFits m.entry.now) }
+    ensures refused { IfErr result (λ refusal. (refusal ≡ InvalidRecord) × (record_valid m.entry.now ≡ false)) }
 {
     if is_valid_record(m) {
-        Ok(CheckedManager { manager: m })
+        Ok(())
     } else {
         Err(Refusal::InvalidRecord)
     }

@@ -8,8 +8,8 @@ use lease::{Manager, Peer, Reading};
 
 // Each timer is valid, and the peer is not in both tables of one side.
 #[tactic(auto, unfolding(lease::specs::RecordCheck::row_valid))]
-fn is_valid_row(now: Reading, row: Peer) -> bool
-    ensures { result ≡ row_valid now row }
+fn is_valid_row(now: Reading, row: &Peer) -> bool
+    ensures { result ≡ row_valid now row.now }
 {
     let timers = is_valid_sent_guard(row.guard_sent)
         && is_valid_grant(now, row.promise_sent)
@@ -22,8 +22,8 @@ fn is_valid_row(now: Reading, row: Peer) -> bool
 
 // No entry and no mark.
 #[tactic(auto, unfolding(lease::specs::RecordCheck::row_empty))]
-fn is_empty_row(row: Peer) -> bool
-    ensures { result ≡ row_empty row }
+fn is_empty_row(row: &Peer) -> bool
+    ensures { result ≡ row_empty row.now }
 {
     let sent = row.guard_sent.is_none() && row.promise_sent.is_none();
     let held = row.guard_held.is_none() && row.promise_held.is_none();
@@ -33,8 +33,8 @@ fn is_empty_row(row: Peer) -> bool
 /// The row of the id `i`: a peer's, or, of the own id and from the population on, one that must be
 /// empty.
 #[tactic(auto, unfolding(lease::specs::RecordCheck::row_valid_at))]
-pub fn is_valid_at(m: &Manager, i: usize, row: Peer) -> bool
-    ensures { result ≡ row_valid_at m.entry.now.me m.entry.now.population m.entry.now.now i row }
+pub fn is_valid_at(m: &Manager, i: usize, row: &Peer) -> bool
+    ensures { result ≡ row_valid_at m.entry.now.me m.entry.now.population m.entry.now.now i row.now }
 {
     if i < m.population && i != m.me {
         is_valid_row(m.now, row)

@@ -1,7 +1,8 @@
--- The record that the check passed has its invariant.
+-- The record that the check passes is valid, and so it fits.
 use Rattle.std.proofs.Common.{sym, ◌∙◌}
 use Rattle.refusals.proofs.Laws.{fits}
 use Rattle.refusals.proofs.records.check_record.Goals as goal
 
-pub invariant_of-result : goal.invariant_of-result
-invariant_of-result c = record { fits = fits _ (sym c.is_valid_record.ensures ∙ c.if-is_valid_record.true) }
+pub returns-then-is_valid_record-clause-passed : goal.returns-then-is_valid_record-clause-passed
+returns-then-is_valid_record-clause-passed c =
+    let e = sym c.is_valid_record.ensures ∙ c.if-is_valid_record.true in (e, fits c.args.m.now e)
