@@ -8,7 +8,7 @@
 //! `src/server/leaseman.rs`.
 //!
 //! [`LeaseManager`] is where to start; `examples/five_lines.rs` is a host loop of five controllers.
-//! A call needs some 50 kB of stack, and no heap.
+//! A call needs some 3 kB of stack, and no heap.
 #![deny(missing_docs)]
 
 mod bitmap;

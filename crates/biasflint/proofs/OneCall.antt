@@ -176,7 +176,7 @@ unfolding call_of is_call
 setup-called f c e = rw e
 
 -- no refusal has the number 0
-not_0 : (k : Refusal) → refusal_number k ≡ 0 → ⊥
+pub not_0 : (k : Refusal) → refusal_number k ≡ 0 → ⊥
 not_0 R.TimeoutOutOfRange z = omega arith
 not_0 R.HeartbeatTooSlow z = omega arith
 not_0 R.PopulationOutOfRange z = omega arith

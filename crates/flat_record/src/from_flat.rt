@@ -29,8 +29,9 @@ fn grant_by_tag(tag: u8, at: u64, revoking: u8) -> Option<(Timer, bool)>
     entry_by_tag(tag, at).map(|t| (t, revoking == 1))
 }
 
+/// The row that a flat one stands for.
 #[tactic(auto, unfolding(wire::specs::FromFlat::peer_of))]
-fn peer_of(p: PeerC) -> Peer
+pub fn peer_of(p: PeerC) -> Peer
     ensures { result ≡ peer_of p }
 {
     Peer {
@@ -48,7 +49,8 @@ fn peers_of(peers: [PeerC; ROWS]) -> [Peer; ROWS]
     peers.map(peer_of)
 }
 
-fn clock_by_flag(drifting: u8, q: f64) -> Clock
+/// The clock; `q` counts only where it drifts.
+pub fn clock_by_flag(drifting: u8, q: f64) -> Clock
     ensures { result ≡ clock_by_flag drifting q }
 {
     if drifting == 0 {
@@ -58,7 +60,8 @@ fn clock_by_flag(drifting: u8, q: f64) -> Clock
     }
 }
 
-fn quiet_timer_by_flag(quiet: u8, at: u64) -> Option<Reading>
+/// The quiet timer; `at`, in ns, counts only in quiet time.
+pub fn quiet_timer_by_flag(quiet: u8, at: u64) -> Option<Reading>
     ensures { result ≡ quiet_timer_by_flag quiet at }
 {
     (quiet != 0).then_some(Reading(at))

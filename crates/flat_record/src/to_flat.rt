@@ -58,8 +58,9 @@ fn grant_revoking(g: Option<(Timer, bool)>) -> u8
     g.map_or(0, |(_, revoking)| u8::from(revoking))
 }
 
+/// A row as numbers.
 #[tactic(auto, unfolding(wire::specs::Flat::flat_row))]
-fn flat_row(row: Peer) -> PeerC
+pub fn flat_row(row: Peer) -> PeerC
     ensures { result ≡ flat_row row }
 {
     PeerC {
@@ -82,13 +83,15 @@ fn flat_rows(peers: [Peer; ROWS]) -> [PeerC; ROWS]
     peers.map(flat_row)
 }
 
-fn clock_drifting(clock: Clock) -> u8
+/// 1 where the clock drifts.
+pub fn clock_drifting(clock: Clock) -> u8
     ensures { result ≡ clock_drifting clock }
 {
     u8::from(matches!(clock, Clock::Drifting(_)))
 }
 
-fn clock_quotient(clock: Clock) -> f64
+/// 1.0 of a true clock.
+pub fn clock_quotient(clock: Clock) -> f64
     ensures { result ≡ clock_quotient clock }
 {
     match clock {
@@ -97,13 +100,15 @@ fn clock_quotient(clock: Clock) -> f64
     }
 }
 
-fn quiet_flag(t: Option<Reading>) -> u8
+/// 1 in quiet time.
+pub fn quiet_flag(t: Option<Reading>) -> u8
     ensures { result ≡ quiet_flag t }
 {
     u8::from(t.is_some())
 }
 
-fn quiet_until_of(t: Option<Reading>) -> u64
+/// The end of quiet time in ns; 0 outside it.
+pub fn quiet_until_of(t: Option<Reading>) -> u64
     ensures { result ≡ quiet_until_of t }
 {
     t.map_or(0, |deadline| deadline.0)

@@ -188,7 +188,7 @@ grant-there tag at revoking h =
     (λ k. (refl, sym (eqb-true at 0 (both_r (is_flag revoking) (eqb at 0) k)), flag-there revoking (both_l (is_flag revoking) (eqb at 0) k)))
     (tag-few tag at (both_r (cond (eqb tag 0) (eqb revoking 0) (is_flag revoking)) (is_entry tag at) h)) h
 
-row-there : (p : PeerC) → is_row p ≡ true → flat_row (peer_of p) ≡ p
+pub row-there : (p : PeerC) → is_row p ≡ true → flat_row (peer_of p) ≡ p
 unfolding is_row peer_of flat_row
 row-there p h =
     let gs = is_entry p.guard_sent p.guard_sent_at in
@@ -217,7 +217,7 @@ row-there p h =
       promise_held_at = d.1 i;
     }
 
-rows-there : (rows : List PeerC) → list_all is_row rows ≡ true → map flat_row (map peer_of rows) ≡ rows
+pub rows-there : (rows : List PeerC) → list_all is_row rows ≡ true → map flat_row (map peer_of rows) ≡ rows
 rows-there [] h = refl
 rows-there (p ∷ rows) h = λ i. row-there p (both_l (is_row p) (list_all is_row rows) h) i ∷ rows-there rows (both_r (is_row p) (list_all is_row rows) h) i
 

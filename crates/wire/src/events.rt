@@ -140,6 +140,7 @@ fn is_notice_card(c: CallC) -> bool
 }
 
 /// Whether the six numbers are an event card; else they are refused with 22.
+#[inline(always)]
 #[tactic(auto, unfolding(crate::specs::Events::is_card))]
 pub fn is_card(c: CallC) -> bool
     ensures { result ≡ is_card c }

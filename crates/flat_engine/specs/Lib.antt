@@ -1,0 +1,2 @@
+-- Flat rows and records that calls in place work on.
+pub mod FlatRows
