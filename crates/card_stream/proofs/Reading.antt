@@ -7,17 +7,19 @@ use mathlib.Core.Bool.{Bool, true, false}
 use mathlib.Core.List.{List, [], ◌∷◌, ◌++◌, append_assoc}
 use native.Mathlib.Numerals.{add-one}
 use native.Mathlib.Omega.{arith}
-use borrow.Author.Tests.{ltb-true, ltb-false, eqb-true, eqb-false, ne_eqb}
+use borrow.Author.Tests.{lt-ltb, ltb-true, ltb-false, eqb-true, eqb-false, ne_eqb}
 use lib.Dec.{eqb, ltb}
-use lib.ListN.{length, take, drop, get_or, length-append, length-set}
-use lib.Seq.{sets, take_at, take_all, take-suc, take-suc-set}
+use lib.ListN.{length, take, drop, get_or, set, length-append, length-set}
+use lib.Seq.{sets, take_at, take_all, take-add, take-suc, take-suc-set}
 use Rattle.wire.specs.declared.events.CardRefusal.TheVariants.{NotOfForm}
 use Rattle.card_text.specs.Text.{lines_read}
 use Rattle.wire.specs.declared.events.Event.{Event}
 use Rattle.wire.specs.Events.{card_of}
 use Rattle.card_text.specs.Cards.{card_text, card_line, card_read, event_read, cards_from, cards_in}
+use Rattle.card_text.proofs.Newlines.{Unbroken}
 use Rattle.card_text.proofs.Cards.{length-card, length_line, line_laid, one-card}
 use Rattle.card_stream.specs.declared.partial.Partial.{Partial}
+use Rattle.card_stream.specs.declared.session.Session.{Session}
 use Rattle.card_stream.specs.Partials.{kept_by, partial_read, Holds}
 use Rattle.card_stream.specs.declared.reader.CardReader.{CardReader}
 use Rattle.card_stream.specs.Reader.{session_after, blank_reader, ended_by, line_given, last_given, ended, kept_in, byte_next, chunk_next, end_next, chunks_next, session_of, HasRead}
@@ -74,6 +76,42 @@ end_left : (r : CardReader) (line : List ℕ) → Holds r.partial line → (end_
 unfolding end_next last_given ended_by lines_read session_after
 end_left r [] h = rw h.0
 end_left r (b ∷ line) h = rw (ne_eqb r.partial.filled 0 (λ q. omega arith))
+
+-- ---- a line that stands whole in the input
+
+-- a reader that holds so many bytes of a line
+abbrev pub holding : ℕ → List ℕ → Session → CardReader
+holding k columns s = record { partial = record { filled = k; columns = columns }; session = s }
+
+set-at : (a : List ℕ) (x b : ℕ) (c : List ℕ) → set (a ++ (x ∷ c)) (length a) b ≡ a ++ (b ∷ c)
+set-at [] x b c = refl
+set-at (y ∷ a) x b c = ap (λ (l : List ℕ). y ∷ l) (set-at a x b c)
+
+-- a byte that is no newline is kept
+kept-one : (k b : ℕ) (columns : List ℕ) (s : Session) → eqb b 10 ≡ false → k < 73 → byte_next (holding k columns s) b ≡ holding (k + 1) (set columns k b) s
+unfolding byte_next kept_by
+kept-one k b columns s e h = rw (e, lt-ltb k 73 h) refl
+
+-- the bytes that fill the line
+kept-all : (a bs c : List ℕ) (s : Session) → length c ≡ length bs → length a + length bs ≡ 73 → Unbroken bs → chunk_next (holding (length a) (a ++ c) s) bs ≡ holding 73 (a ++ bs) s
+unfolding chunk_next
+kept-all a [] [] s e n p = let q : length a ≡ 73 = omega (arith, n) in rw q refl
+kept-all a [] (x ∷ c) s e n p = absurd (omega (arith, e))
+kept-all a (b ∷ bs) [] s e n p = absurd (omega (arith, e))
+kept-all a (b ∷ bs) (x ∷ c) s e n p =
+    let one = kept-one (length a) b (a ++ (x ∷ c)) s p.0 (omega (arith, n)) in
+    let long : length (a ++ (b ∷ [])) ≡ length a + 1 = length-append a (b ∷ []) in
+    let rest = simp append_assoc at (kept-all (a ++ (b ∷ [])) bs c s (omega (arith, e)) (omega (arith, n, long)) p.1) in
+    ap (λ (r : CardReader). chunk_next r bs) (one ∙ ap (λ (l : List ℕ). holding (length a + 1) l s) (set-at a x b c))
+    ∙ rw (← long) rest
+
+-- the line is held whole
+pub line_held : (r : CardReader) (line : List ℕ) → r.partial.filled ≡ 0 → length r.partial.columns ≡ 73 → length line ≡ 73 → Unbroken line → chunk_next r line ≡ holding 73 line r.session
+line_held r line z w n p = ap (λ (k : ℕ). chunk_next (holding k r.partial.columns r.session) line) z ∙ kept-all [] line r.partial.columns r.session (w ∙ sym n) (omega (arith, n)) p
+
+-- what is taken behind k bytes of an input
+pub more : (r : CardReader) (s : List ℕ) (i k : ℕ) → chunk_next (chunk_next r (take i s)) (take k (drop i s)) ≡ chunk_next r (take (i + k) s)
+more r s i k = rw take-add (sym (chunks r (take i s) (take k (drop i s))))
 
 -- ---- the whole input
 

@@ -9,13 +9,18 @@ use Rattle.lease.specs.declared.Refusal.{Refusal}
 use Rattle.lease.specs.declared.Lines.{Lines}
 use Rattle.lease.specs.declared.Advanced.{Advanced}
 use Rattle.lease.specs.declared.Manager.{Manager}
-use Rattle.lease.specs.SetUp.{setup_of}
+use Rattle.lease.specs.Types.{Reading}
+use Rattle.lease.specs.RecordCheck.{record_valid}
+use Rattle.lease.specs.SetUp.{setup_refusal, fresh, setup_of}
+use Rattle.reachable.specs.Reachable.{set-up as reached-set-up}
+use Rattle.reachable.proofs.Reached.{reachable-valid}
 use Rattle.lease.specs.Rules.{notice_of, advance_of}
 use Rattle.wire.specs.declared.calls.CallC.{CallC}
 use Rattle.wire.specs.Events.{is_card, event_of}
 use Rattle.card_text.specs.Cards.{card_read, event_in, event_read, refused_with}
 use Rattle.wire.specs.declared.events.Event.{Event}
 use Rattle.wire.specs.declared.events.Event.TheVariants as E
+use Rattle.wire.specs.declared.events.CardGiven.{CardGiven}
 use Rattle.wire.specs.declared.events.CardRefusal.{CardRefusal}
 use Rattle.wire.specs.declared.events.CardRefusal.TheVariants as C
 use Rattle.card_stream.specs.declared.session.Session.{Session}
@@ -114,5 +119,10 @@ unfolding event_read card_number
 card-number s line = numbers-number s (card_read line)
 
 -- an answer that is the card's has that number
-pub number-by : (s : Session) (read : Result Event CardRefusal) (line : List ℕ) (a : CardAnswer) → a ≡ card_given s read → read ≡ event_read line → refused_with a.outcome ≡ card_number s.manager line
-number-by s read line a e f = rw (e, f) (card-number s line)
+pub number-by : (s : Session) (read : Result Event CardRefusal) (line : List ℕ) (o : Result CardGiven CardRefusal) → o ≡ (card_given s read).outcome → read ≡ event_read line → refused_with o ≡ card_number s.manager line
+number-by s read line o e f = rw (e, f) (card-number s line)
+
+-- An accepted set-up starts with a record that refusal 15 lets through.
+pub fresh_valid : (me n t hb : ℕ) (now : Reading) → setup_refusal me n t hb now ≡ Ok tt → record_valid (fresh me n t now) ≡ true
+unfolding setup_of
+fresh_valid me n t hb now e = rw e at (reachable-valid (setup_of me n t hb now).manager (reached-set-up me n t hb now (rw e refl)))

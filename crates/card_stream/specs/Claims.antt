@@ -1,13 +1,14 @@
 -- What is claimed of cards one after the other, and of reading and printing in pieces (rule 14.5). Each claim is a clause of a function of
 -- src/laws.rt. Statements only.
-use Rattle.std.specs.Prelude.{◌≡◌, Result, Err, List, [], ◌∷◌, ◌++◌, ℕ}
+use Rattle.std.specs.Prelude.{◌≡◌, ◌≤◌, ◌+◌, Result, Err, List, [], ◌∷◌, ◌++◌, length, ℕ}
 use Rattle.wire.specs.declared.events.Event.{Event}
 use Rattle.wire.specs.declared.events.CardRefusal.{CardRefusal}
 use Rattle.card_stream.specs.declared.session.Session.{Session}
 use Rattle.card_stream.specs.Sessions.{counted, card_given}
 use Rattle.card_stream.specs.declared.reader.CardReader.{CardReader}
 use Rattle.card_stream.specs.Reader.{session_of, blank_reader, chunk_next, chunks_next}
-use Rattle.card_stream.specs.Feed.{replay_text, feed_text, chunks_text}
+use Rattle.card_text.specs.Lines.{most_bytes}
+use Rattle.card_stream.specs.Feed.{replay_text, feed_text, chunks_text, bytes_taken}
 
 -- A refused card is counted, and changes nothing else (rule 10.31).
 abbrev pub RefusedCardKeeps : Type 0
@@ -33,3 +34,7 @@ PrintedInChunks = (r : CardReader) (a b : List ℕ) → feed_text r (a ++ b) ≡
 -- Whatever the chunks are, what is printed is what the whole input prints.
 abbrev pub PrintedOfWhole : Type 0
 PrintedOfWhole = (chunks : List (List ℕ)) → chunks_text blank_reader chunks ≡ replay_text (joined chunks)
+
+-- Where there is room for what a chunk prints and for the most that a card gives, all of its bytes are taken.
+abbrev pub TakenWithRoom : Type 0
+TakenWithRoom = (r : CardReader) (input : List ℕ) (room : ℕ) → length (feed_text r input) + most_bytes ≤ room → bytes_taken r input room ≡ length input

@@ -1,12 +1,13 @@
 -- From bytes to bytes (rules 14.4, 14.5): what a whole input prints, and the same a chunk at a time, as the program reads it. Definitions
 -- only.
-use Rattle.std.specs.Prelude.{ℕ, ◌≡◌, ◌+◌, ◌*◌, ◌/◌, Bool, false, cond, List, [], ◌∷◌, ◌++◌, eqb, leb, min, Result}
+use Rattle.std.specs.Prelude.{ℕ, suc, ◌-◌, ◌≤◌, ◌≡◌, cond, List, [], ◌∷◌, ◌++◌, eqb, leb, get_or, length, take, Some, Result}
+use Rattle.wire.specs.declared.calls.CallC.{CallC}
 use Rattle.wire.specs.declared.events.Event.{Event}
 use Rattle.wire.specs.declared.events.CardRefusal.{CardRefusal}
 use Rattle.card_stream.specs.declared.session.Session.{Session}
 use Rattle.card_stream.specs.declared.session.CardAnswer.{CardAnswer}
 use Rattle.card_stream.specs.Sessions.{blank_session, card_given}
-use Rattle.card_text.specs.Cards.{cards_in}
+use Rattle.card_text.specs.Cards.{card_read, cards_in}
 use Rattle.card_text.specs.Lines.{outcome_text, line_bytes, most_bytes}
 use Rattle.card_stream.specs.declared.reader.CardReader.{CardReader}
 use Rattle.card_stream.specs.Reader.{blank_reader, line_given, last_given, byte_next, chunk_next, HasRead}
@@ -37,6 +38,11 @@ unfoldable pub feed_text : CardReader → List ℕ → List ℕ
 feed_text r [] = []
 feed_text r (b ∷ bs) = byte_text r b ++ feed_text (byte_next r b) bs
 
+-- No line has begun, and that card stands in front of an input: 73 columns that are its six numbers, and a newline.
+abbrev pub CardStands : CardReader → List ℕ → CallC → Type 0
+CardStands r input card =
+    (r.partial.filled ≡ 0) × (74 ≤ length input) × (get_or input 73 0 ≡ 10) × (card_read (take 73 input) ≡ Some card)
+
 -- What the end of the input prints.
 unfoldable pub last_text : CardReader → List ℕ
 last_text r = cond (eqb r.partial.filled 0) [] (given_text (last_given r))
@@ -53,23 +59,11 @@ Fed next before chunk written =
 
 -- ---- what the calls answer
 
--- The room for each byte that is read: a card and its newline give the most that a card gives.
-abbrev pub per_byte : ℕ
-per_byte = (most_bytes + 73) / 74
-
--- The most bytes of a chunk, and the room for what they and a line before them print.
-abbrev pub most_input : ℕ
-most_input = 4096
-
-abbrev pub chunk_bytes : ℕ
-chunk_bytes = per_byte * (74 + most_input)
-
-abbrev pub chunk_has_room : ℕ → ℕ → Bool
-chunk_has_room input room = cond (leb input most_input) (leb chunk_bytes room) false
-
--- How many bytes of a line are held.
-abbrev pub held : CardReader → ℕ
-held r = min r.partial.filled 74
+-- How many bytes of an input are taken: each while there is room for the most that a card gives.
+unfoldable pub bytes_taken : CardReader → List ℕ → ℕ → ℕ
+bytes_taken r [] room = 0
+bytes_taken r (b ∷ bs) room =
+    cond (leb most_bytes room) (suc (bytes_taken (byte_next r b) bs (room - length (byte_text r b)))) 0
 
 -- The end, where there is room for a line.
 unfoldable pub last_bytes : CardReader → ℕ → List ℕ

@@ -42,12 +42,9 @@ ended r = ended_by r (line_given r)
 abbrev pub kept_in : CardReader → ℕ → CardReader
 kept_in r b = record { partial = kept_by r.partial b; session = r.session }
 
--- What a byte leaves, and what its card gives, where it ends a line.
+-- What a byte leaves.
 unfoldable pub byte_next : CardReader → ℕ → CardReader
 byte_next r b = cond (eqb b 10) (ended r) (kept_in r b)
-
-unfoldable pub byte_given : CardReader → ℕ → Option (Result CardGiven CardRefusal)
-byte_given r b = cond (eqb b 10) (Some (line_given r).outcome) None
 
 -- What a chunk leaves.
 unfoldable pub chunk_next : CardReader → List ℕ → CardReader

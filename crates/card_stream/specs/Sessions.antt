@@ -1,6 +1,6 @@
 -- What a card does (rules 14.3, 14.5): refused with 21 or 22 as its line was read, then with 23, then as the call that it says; else what
 -- the rules give, on the record that the cards before it left. Definitions only.
-use Rattle.std.specs.Prelude.{ℕ, ◌+◌, cond, ltb, List, Option, None, Some, Result, Ok, Err}
+use Rattle.std.specs.Prelude.{ℕ, ◌+◌, Bool, true, cond, ltb, List, Option, None, Some, Result, Ok, Err}
 use Rattle.card_text.specs.Columns.{max_number}
 use Rattle.lease.specs.declared.Refusal.{Refusal}
 use Rattle.lease.specs.Refusals.{refusal_number}
@@ -10,6 +10,7 @@ use Rattle.lease.specs.Types.{Reading}
 use Rattle.lease.specs.declared.LeaseNum.{LeaseNum}
 use Rattle.lease.specs.declared.LeaseNotice.{LeaseNotice}
 use Rattle.lease.specs.declared.Manager.{Manager}
+use Rattle.lease.specs.RecordCheck.{record_valid}
 use Rattle.lease.specs.SetUp.{setup_of}
 use Rattle.lease.specs.Rules.{notice_of, advance_of}
 use Rattle.wire.specs.declared.calls.CallC.{CallC}
@@ -31,6 +32,14 @@ use Rattle.card_stream.specs.declared.session.CardAnswer.{CardAnswer}
 unfoldable pub blank_session : Session
 blank_session = record { cards = 0; manager = None }
 
+-- Whether refusal 15 lets the record through, if there is one: cards from the first on keep it so.
+abbrev pub record_sound : Option Manager → Bool
+record_sound None = true
+record_sound (Some m) = record_valid m
+
+abbrev pub sound : Session → Bool
+sound s = record_sound s.manager
+
 -- Cards are counted from 1; the count stops at the largest number that a line can print.
 abbrev pub count_next : ℕ → ℕ
 count_next n = cond (ltb n max_number) (n + 1) n
@@ -51,10 +60,20 @@ given_by outcome s = record { outcome = outcome; session = s }
 unfoldable pub refused_card : Session → CardRefusal → CardAnswer
 refused_card s k = given_by (Err k) s
 
--- What an event gives, with the session after it; or the refusal of a card that changes nothing.
-unfoldable pub event_answer : Session → Result (CardGiven × Session) CardRefusal → CardAnswer
-event_answer s (Err k) = refused_card s k
-event_answer s (Ok (g, after)) = given_by (Ok g) after
+-- ---- what a call answers, as its card gives it
+
+abbrev pub done : Result (Unit {0}) CardRefusal → Result CardGiven CardRefusal
+done (Err k) = Err k
+done (Ok tt) = Ok G.Done
+
+-- Timers fire under the active number.
+abbrev pub fired : Result (LeaseNum × Advanced) CardRefusal → Result CardGiven CardRefusal
+fired (Err k) = Err k
+fired (Ok (num, a)) = Ok (G.Fired num a.fired a.quiet_end)
+
+abbrev pub acted : Result Lines CardRefusal → Result CardGiven CardRefusal
+acted (Err k) = Err k
+acted (Ok lines) = Ok (G.Acted lines)
 
 -- ---- what an event gives, by the rules
 

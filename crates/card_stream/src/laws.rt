@@ -1,7 +1,7 @@
 // The laws of sessions, of reading and of printing, each a claim of specs/Claims: the functions of this crate are stated by the same
 // definitions.
 
-ghost use Rattle.card_stream.specs.Claims.{RefusedCardKeeps, ReadInChunks, SessionOfWhole, PrintedInChunks, PrintedOfWhole};
+ghost use Rattle.card_stream.specs.Claims.{RefusedCardKeeps, ReadInChunks, SessionOfWhole, PrintedInChunks, PrintedOfWhole, TakenWithRoom};
 
 /// A refused card is counted, and changes nothing else in the session (rules 10.31, 14.5).
 pub fn refused_card_keeps()
@@ -18,4 +18,9 @@ pub fn chunks_read_alike()
 pub fn chunks_print_alike()
     ensures anywhere { PrintedInChunks }
     ensures whole { PrintedOfWhole }
+{}
+
+/// A chunk is taken whole where there is room for its lines, and behind them for the most that a card gives (rule 14.5).
+pub fn chunk_is_taken()
+    ensures { TakenWithRoom }
 {}

@@ -6,6 +6,7 @@ pub mod feed;
 pub mod input;
 pub mod laws;
 pub mod partial;
+pub mod printed;
 pub mod reader;
 pub mod replay;
 pub mod session;

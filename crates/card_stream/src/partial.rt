@@ -1,7 +1,7 @@
 // The line so far (rule 14.5): its bytes are kept one by one, up to 73 of them, and read as a card where it ends. Definitions in
 // specs/Partials.
 
-ghost use Rattle.std.specs.Prelude.{◌≡◌, cond, Option, None, Some, Result, Ok};
+ghost use Rattle.std.specs.Prelude.{◌≡◌, cond, length, Option, None, Some, Result, Ok};
 ghost use Rattle.wire.specs.Events.{is_carried};
 ghost use Rattle.card_text.specs.Cards.{refused_with};
 ghost use Rattle.card_stream.specs.Partials.{kept_by, partial_read, partial_number, Holds};
@@ -36,6 +36,15 @@ impl Partial {
         } else {
             self.filled = COLUMNS + 1;
         }
+    }
+
+    // The bytes of a whole line, without its newline.
+    pub(crate) fn hold(&mut self, line: &[u8])
+        requires { length line.now ≡ 73 }
+        ensures filled { self.new.filled ≡ self.old.filled }
+        ensures columns { self.new.columns ≡ line.now }
+    {
+        self.columns.copy_from_slice(line);
     }
 
     /// The line so far, read as a card: it ends here. Refused with 21 where it is not of 73 columns of numbers, with 22 where they are no

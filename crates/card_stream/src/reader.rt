@@ -1,22 +1,25 @@
-// Reading event cards from bytes (rule 14.5): byte by byte, the line so far and the session that its cards have left. Every program that
-// reads cards reads them by this. Definitions in specs/Reader.
+// Reading event cards from bytes (rule 14.5): the line so far, byte by byte, and the session that its cards have left; a line that stands
+// whole in the input is read straight from there. Every program that reads cards reads them by this. Definitions in specs/Reader.
 
-ghost use Rattle.std.specs.Prelude.{ℕ, List, ◌≡◌, ◌++◌, Option};
-ghost use Rattle.card_stream.specs.Sessions.{card_given};
-ghost use Rattle.card_stream.specs.Reader.{session_of, blank_reader, ended_by, byte_next, byte_given, chunk_next, end_next, end_given, HasRead};
+ghost use Rattle.std.specs.Prelude.{ℕ, List, [], ◌≤◌, ◌≡◌, ◌≢◌, ◌++◌, length, take, get_or, Option, IfSome};
+ghost use Rattle.card_stream.specs.Sessions.{card_given, sound};
+ghost use Rattle.card_stream.specs.Reader.{session_of, blank_reader, ended_by, ended, byte_next, chunk_next, end_next, end_given, HasRead};
+ghost use Rattle.card_stream.specs.Feed.{feed_text, CardStands};
 
 use crate::partial::{EMPTY, Partial};
-use crate::session::{Session, blank_session, take_card};
+use crate::session::{Session, blank_session, is_sound, take_known};
+use card_text::card::{CARD, COLUMNS, event_in, read_card};
+use wire::calls::CallC;
 use wire::events::{CardGiven, CardRefusal, Event};
 
 /// The most bytes that programs read, and hand over, at a time.
 pub const MOST_INPUT: usize = 4096;
 
-// What ends a line.
-const NEWLINE: u8 = b'\n';
+/// What ends a line.
+pub const NEWLINE: u8 = b'\n';
 
 /// What is kept between two bytes: the line so far, and the session that the cards before it have left.
-#[derive(Clone, Copy)]
+#[derive(Drop)]
 pub struct CardReader {
     pub partial: Partial,
     pub session: Session,
@@ -36,39 +39,102 @@ pub fn blank_reader() -> CardReader
 impl CardReader {
     // The line ends, read so: its card is taken. Answers what it gives.
     #[tactic(auto, unfolding(crate::specs::Reader::ended_by))]
-    fn end_line(&mut self, read: Result<Event, CardRefusal>) -> Result<CardGiven, CardRefusal>
+    fn end_line(
+        &mut self,
+        is_known_sound: bool,
+        read: Result<Event, CardRefusal>,
+    ) -> Result<CardGiven, CardRefusal>
+        requires { is_known_sound ≡ sound self.old.session }
         ensures self_after { self.new ≡ ended_by self.old (card_given self.old.session read) }
         ensures value { result ≡ (card_given self.old.session read).outcome }
+        ensures stays { sound self.new.session ≡ sound self.old.session }
     {
-        let answer = take_card(self.session, read);
         self.partial.filled = 0;
-        self.session = answer.session;
-        answer.outcome
+        take_known(&mut self.session, is_known_sound, read)
     }
 
-    /// One byte more. Answers what the card gives whose line it ends.
-    #[tactic(auto, unfolding(crate::specs::Reader::byte_next, crate::specs::Reader::byte_given, crate::specs::Reader::line_given))]
-    pub fn take_byte(&mut self, b: u8) -> Option<Result<CardGiven, CardRefusal>>
-        ensures self_after { self.new ≡ byte_next self.old b }
-        ensures value { result ≡ byte_given self.old b }
+    // The card that stands in front of the input where no line has begun; none where its 73 columns are no numbers or no newline stands
+    // behind them.
+    #[inline(always)]
+    pub(crate) fn card_in(&self, input: &[u8]) -> Option<CallC>
+        ensures { IfSome result (λ card. CardStands self.now input.now card) }
     {
-        if b == NEWLINE {
-            let read = self.partial.read();
-            return Some(self.end_line(read));
+        if self.partial.filled > 0 || input.len() < CARD || input[COLUMNS] != NEWLINE {
+            return None;
         }
-        self.partial.push(b);
-        None
+        read_card(&input[..COLUMNS])
+    }
+
+    // The line so far ends, where nothing is asked for but the session. Here and below it is known whether that is sound (`is_sound`), and it
+    // stays so. What a card gives is held here alone: a function fills its locals each time, and `take_next` is called for each line.
+    #[inline(never)]
+    #[tactic(auto, unfolding(crate::specs::Reader::line_given))]
+    fn pass_newline(&mut self, is_known_sound: bool)
+        requires { is_known_sound ≡ sound self.old.session }
+        ensures self_after { self.new ≡ ended self.old }
+        ensures stays { sound self.new.session ≡ sound self.old.session }
+    {
+        let read = self.partial.read();
+        let _outcome = self.end_line(is_known_sound, read);
+    }
+
+    // The line of that card, straight from the input, and its newline.
+    fn pass_line(&mut self, is_known_sound: bool, input: &[u8], card: CallC)
+        requires known { is_known_sound ≡ sound self.old.session }
+        requires stands { CardStands self.old input.now card }
+        ensures self_after { self.new ≡ chunk_next self.old (take 74 input.now) }
+        ensures stays { sound self.new.session ≡ sound self.old.session }
+    {
+        self.partial.hold(&input[..COLUMNS]);
+        let _outcome = self.end_line(is_known_sound, event_in(card));
+    }
+
+    // The bytes in front of the input that stand before a newline, or all: they print nothing. Answers how many they are.
+    pub(crate) fn keep_bytes(&mut self, input: &[u8]) -> usize
+        requires some { 1 ≤ length input.now }
+        requires first { get_or input.now 0 0 ≢ 10 }
+        ensures bounds { (1 ≤ result) × (result ≤ length input.now) }
+        ensures self_after { self.new ≡ chunk_next self.old (take result input.now) }
+        ensures silent { feed_text self.old (take result input.now) ≡ [] }
+        ensures session { self.new.session ≡ self.old.session }
+    {
+        let mut taken = 0;
+        while taken < input.len() && input[taken] != NEWLINE {
+            self.partial.push(input[taken]);
+            taken += 1;
+        }
+        taken
+    }
+
+    // A line, and where no card stands the bytes before a newline, or the newline. Answers how many bytes were taken.
+    fn take_next(&mut self, is_known_sound: bool, input: &[u8]) -> usize
+        requires known { is_known_sound ≡ sound self.old.session }
+        requires some { 1 ≤ length input.now }
+        ensures bounds { (1 ≤ result) × (result ≤ length input.now) }
+        ensures self_after { self.new ≡ chunk_next self.old (take result input.now) }
+        ensures stays { sound self.new.session ≡ sound self.old.session }
+    {
+        if let Some(card) = self.card_in(input) {
+            self.pass_line(is_known_sound, input, card);
+            return CARD;
+        }
+        if input[0] != NEWLINE {
+            return self.keep_bytes(input);
+        }
+        self.pass_newline(is_known_sound);
+        1
     }
 
     /// All bytes of a chunk, for a program that asks for nothing but the session that its cards leave. Where a chunk ends changes nothing
     /// (rule 14.5).
-    #[tactic(auto, using(crate::proofs::Reading::byte_more), unfolding(crate::specs::Reader::chunk_next))]
     pub fn take_chunk(&mut self, input: &[u8])
         ensures self_after { self.new ≡ chunk_next self.old input.now }
         ensures has_read { (before : List ℕ) → HasRead self.old before → HasRead self.new (before ++ input.now) }
     {
-        for b in input {
-            self.take_byte(*b);
+        let is_known_sound = is_sound(&self.session);
+        let mut taken = 0;
+        while taken < input.len() {
+            taken += self.take_next(is_known_sound, &input[taken..]);
         }
     }
 
@@ -83,6 +149,7 @@ impl CardReader {
         if self.partial.filled == 0 {
             return None;
         }
-        Some(self.end_line(Err(CardRefusal::NotOfForm)))
+        let is_known_sound = is_sound(&self.session);
+        Some(self.end_line(is_known_sound, Err(CardRefusal::NotOfForm)))
     }
 }

@@ -1,18 +1,19 @@
 // What a card does (rules 14.3, 14.5): the state that is carried from card to card, the refusals of the line and of the card's turn in front
-// of the call's own, and the calls of the lease manager. Definitions in specs/Sessions.
+// of the call's own, and the calls of the lease manager on the record where it stands. Definitions in specs/Sessions.
 
 ghost use Rattle.std.specs.Prelude.{ℕ, List, ◌≡◌};
+ghost use Rattle.wire.specs.declared.events.Event.TheVariants as E;
 ghost use Rattle.card_text.specs.Cards.{event_read, refused_with};
-ghost use Rattle.card_stream.specs.Sessions.{blank_session, count_next, counted, with_manager, given_by, refused_card, event_answer, set_up_event, advance_event, notice_event, event_given, card_given, card_number};
+ghost use Rattle.card_stream.specs.Sessions.{blank_session, sound, count_next, done, fired, acted, event_given, card_given, card_number};
 
-use engine::set_up::new_and_setup;
-use lease::{LeaseNotice, LeaseNum, Manager, Reading};
-use leaseman::clock::advance;
-use leaseman::notice::add_notice;
+use engine::set_up::{check_set_up, fresh_manager};
+use engine::valid::{advance_valid, notice_valid};
+use lease::{Advanced, LeaseNotice, LeaseNum, Lines, Manager, Reading, Refusal};
+use refusals::records::is_valid_record;
 use wire::events::{CardGiven, CardRefusal, Event, SetUpCall};
 
 /// What is carried from card to card.
-#[derive(Clone, Copy)]
+#[derive(Drop)]
 pub struct Session {
     /// How many cards were read, refused ones included.
     pub cards: u64,
@@ -21,7 +22,7 @@ pub struct Session {
 }
 
 /// What a card gives, and the session after it.
-#[derive(Clone, Copy)]
+#[derive(Drop)]
 pub struct CardAnswer {
     pub outcome: Result<CardGiven, CardRefusal>,
     pub session: Session,
@@ -38,109 +39,124 @@ pub fn blank_session() -> Session
     }
 }
 
-// Cards are counted from 1; the count stops at the largest number.
-fn count_next(cards: u64) -> u64
+/// Whether refusal 15 lets the session's record through, if there is one. Cards keep it so: a run of cards looks once.
+#[tactic(auto, unfolding(crate::specs::Sessions::sound))]
+pub fn is_sound(s: &Session) -> bool
+    ensures { result ≡ sound s.now }
+{
+    match &s.manager {
+        None => true,
+        Some(m) => is_valid_record(m),
+    }
+}
+
+/// Cards are counted from 1; the count stops at the largest number.
+pub(crate) fn count_next(cards: u64) -> u64
     ensures { result ≡ count_next cards }
 {
     cards.saturating_add(1)
 }
 
-// One card more.
-#[tactic(auto, unfolding(crate::specs::Sessions::counted))]
-fn counted_session(s: Session) -> Session
-    ensures { result ≡ counted s }
-{
-    Session {
-        cards: count_next(s.cards),
-        ..s
-    }
-}
-
-// An outcome, and the session after it.
-#[tactic(auto, unfolding(crate::specs::Sessions::given_by))]
-fn given(outcome: Result<CardGiven, CardRefusal>, session: Session) -> CardAnswer
-    ensures { result ≡ given_by outcome session }
-{
-    CardAnswer { outcome, session }
-}
-
-#[tactic(auto, unfolding(crate::specs::Sessions::refused_card))]
-fn refused_card(s: Session, refusal: CardRefusal) -> CardAnswer
-    ensures { result ≡ refused_card s refusal }
-{
-    given(Err(refusal), s)
-}
-
-// The session after an accepted card.
-#[tactic(auto, unfolding(crate::specs::Sessions::with_manager))]
-fn with_manager(s: Session, manager: Manager) -> Session
-    ensures { result ≡ with_manager s manager }
-{
-    Session {
-        manager: Some(manager),
-        ..s
-    }
-}
-
-// ---- what an event gives, with the session after it; or why it is refused
-
-#[tactic(auto, unfolding(crate::specs::Sessions::event_answer, crate::specs::Sessions::set_up_event))]
-fn run_set_up(s: Session, u: SetUpCall) -> Result<(CardGiven, Session), CardRefusal>
-    ensures { event_answer s result ≡ set_up_event s u }
-{
-    let a = new_and_setup(u.me, u.population, u.expire_timeout, u.heartbeat, u.now);
-    a.outcome?;
-    Ok((CardGiven::Done, with_manager(s, a.manager)))
-}
-
-#[tactic(auto, unfolding(crate::specs::Sessions::event_answer, crate::specs::Sessions::advance_event))]
-fn run_advance(s: Session, m: Manager, to: Reading) -> Result<(CardGiven, Session), CardRefusal>
-    ensures { event_answer s result ≡ advance_event s m to }
-{
-    let a = advance(m, to);
-    let advanced = a.outcome?;
-    let fired = CardGiven::Fired(a.manager.active_num, advanced.fired, advanced.quiet_end);
-    Ok((fired, with_manager(s, a.manager)))
-}
-
-// Here and above m is the manager of s, which `run_event` has found there.
-#[tactic(auto, unfolding(crate::specs::Sessions::event_answer, crate::specs::Sessions::notice_event))]
-fn run_notice(
-    s: Session,
-    m: Manager,
-    num: LeaseNum,
-    notice: LeaseNotice,
-) -> Result<(CardGiven, Session), CardRefusal>
-    ensures { event_answer s result ≡ notice_event s m num notice }
-{
-    let a = add_notice(m, num, notice);
-    let lines = a.outcome?;
-    Ok((CardGiven::Acted(lines), with_manager(s, a.manager)))
-}
+// ---- what an event gives; `is_known_sound` says whether the session's record is sound
 
 // Set-up comes once, and before all others.
-#[tactic(auto, unfolding(crate::specs::Sessions::event_answer, crate::specs::Sessions::event_given))]
-fn run_event(s: Session, e: Event) -> Result<(CardGiven, Session), CardRefusal>
-    ensures { event_answer s result ≡ event_given s s.manager e }
+#[tactic(auto, using(crate::proofs::Sessions::fresh_valid), unfolding(crate::specs::Sessions::event_given, crate::specs::Sessions::set_up_event, crate::specs::Sessions::given_by, crate::specs::Sessions::refused_card, crate::specs::Sessions::with_manager, lease::specs::SetUp::setup_of))]
+pub(crate) fn run_set_up(s: &mut Session, u: SetUpCall) -> Result<(), CardRefusal>
+    ensures session_after { s.new ≡ (event_given s.old s.old.manager (E.SetUp u)).session }
+    ensures value { done result ≡ (event_given s.old s.old.manager (E.SetUp u)).outcome }
+    ensures stays { sound s.new ≡ sound s.old }
 {
-    match (s.manager, e) {
-        (None, Event::SetUp(u)) => run_set_up(s, u),
-        (Some(m), Event::Advance(to)) => run_advance(s, m, to),
-        (Some(m), Event::Notice(num, notice)) => run_notice(s, m, num, notice),
-        _ => Err(CardRefusal::OutOfTurn),
+    if s.manager.is_some() {
+        return Err(CardRefusal::OutOfTurn);
+    }
+    check_set_up(u.me, u.population, u.expire_timeout, u.heartbeat, u.now)?;
+    s.manager = Some(fresh_manager(u.me, u.population, u.expire_timeout, u.now));
+    Ok(())
+}
+
+// Timers fire under the active number.
+#[tactic(auto, unfolding(lease::specs::Rules::advance_of, crate::specs::Sessions::event_given, crate::specs::Sessions::advance_event, crate::specs::Sessions::given_by, crate::specs::Sessions::refused_card, crate::specs::Sessions::with_manager))]
+pub(crate) fn run_advance(
+    s: &mut Session,
+    is_known_sound: bool,
+    to: Reading,
+) -> Result<(LeaseNum, Advanced), CardRefusal>
+    requires { is_known_sound ≡ sound s.old }
+    ensures session_after { s.new ≡ (event_given s.old s.old.manager (E.Advance to)).session }
+    ensures value { fired result ≡ (event_given s.old s.old.manager (E.Advance to)).outcome }
+    ensures stays { sound s.new ≡ sound s.old }
+{
+    let Some(m) = &mut s.manager else {
+        return Err(CardRefusal::OutOfTurn);
+    };
+    if !is_known_sound {
+        return Err(CardRefusal::Call(Refusal::InvalidRecord));
+    }
+    let advanced = advance_valid(m, to)?;
+    Ok((m.active_num, advanced))
+}
+
+#[tactic(auto, unfolding(lease::specs::Rules::notice_of, crate::specs::Sessions::event_given, crate::specs::Sessions::notice_event, crate::specs::Sessions::given_by, crate::specs::Sessions::refused_card, crate::specs::Sessions::with_manager))]
+pub(crate) fn run_notice(
+    s: &mut Session,
+    is_known_sound: bool,
+    num: LeaseNum,
+    notice: LeaseNotice,
+) -> Result<Lines, CardRefusal>
+    requires { is_known_sound ≡ sound s.old }
+    ensures session_after { s.new ≡ (event_given s.old s.old.manager (E.Notice num notice)).session }
+    ensures value { acted result ≡ (event_given s.old s.old.manager (E.Notice num notice)).outcome }
+    ensures stays { sound s.new ≡ sound s.old }
+{
+    let Some(m) = &mut s.manager else {
+        return Err(CardRefusal::OutOfTurn);
+    };
+    if !is_known_sound {
+        return Err(CardRefusal::Call(Refusal::InvalidRecord));
+    }
+    let lines = notice_valid(m, num, notice)?;
+    Ok(lines)
+}
+
+// ---- cards
+
+/// A card, as its line was read: what it gives, and the session after it, where it is known whether the session is sound (`is_sound`); the card
+/// keeps it so. Refused as `take_card`.
+#[tactic(auto, unfolding(crate::specs::Sessions::card_given, crate::specs::Sessions::counted, crate::specs::Sessions::given_by, crate::specs::Sessions::refused_card))]
+pub fn take_known(
+    s: &mut Session,
+    is_known_sound: bool,
+    read: Result<Event, CardRefusal>,
+) -> Result<CardGiven, CardRefusal>
+    requires { is_known_sound ≡ sound s.old }
+    ensures session_after { s.new ≡ (card_given s.old read).session }
+    ensures value { result ≡ (card_given s.old read).outcome }
+    ensures stays { sound s.new ≡ sound s.old }
+{
+    s.cards = count_next(s.cards);
+    match read? {
+        Event::SetUp(u) => run_set_up(s, u).map(|()| CardGiven::Done),
+        Event::Advance(to) => run_advance(s, is_known_sound, to).map(|(num, a)| CardGiven::Fired(
+            num,
+            a.fired,
+            a.quiet_end,
+        )),
+        Event::Notice(num, notice) => {
+            run_notice(s, is_known_sound, num, notice).map(CardGiven::Acted)
+        }
     }
 }
 
 /// A card, as its line was read: what it gives, and the session after it. Refused with 21 or 22 as its line was, with 23 where it is out of
 /// turn, else as its call is (rule 14.3); a refused card is counted and changes nothing else (rule 10.31).
-#[tactic(auto, unfolding(crate::specs::Sessions::event_answer, crate::specs::Sessions::card_given, crate::specs::Sessions::counted))]
-pub fn take_card(s: Session, read: Result<Event, CardRefusal>) -> CardAnswer
-    ensures value { result ≡ card_given s read }
-    ensures number { (line : List ℕ) → read ≡ event_read line → refused_with result.outcome ≡ card_number s.manager line }
+pub fn take_card(
+    s: &mut Session,
+    read: Result<Event, CardRefusal>,
+) -> Result<CardGiven, CardRefusal>
+    ensures session_after { s.new ≡ (card_given s.old read).session }
+    ensures value { result ≡ (card_given s.old read).outcome }
+    ensures number { (line : List ℕ) → read ≡ event_read line → refused_with result ≡ card_number s.old.manager line }
 {
-    let next = counted_session(s);
-    match read.and_then(|e| run_event(next, e)) {
-        Ok((outcome, session)) => given(Ok(outcome), session),
-        Err(refusal) => refused_card(next, refusal),
-    }
+    let is_known_sound = is_sound(s);
+    take_known(s, is_known_sound, read)
 }

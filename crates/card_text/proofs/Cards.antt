@@ -1,7 +1,7 @@
 -- The claims of event cards. What is written is read: each column is cut out of the text, and read. What is read is written: each field is
 -- what its number is written as, and the fields joined are the line. Then the same of a list. Assumes nothing.
 use Prim.Native.Nat.{ℕ, suc, ◌+◌, ◌^◌, ◌≤◌, ◌<◌}
-use mathlib.Core.Path.{◌≡◌, refl, ◌∙◌}
+use mathlib.Core.Path.{◌≡◌, refl, subst, ◌∙◌}
 use mathlib.Core.Bool.{Bool, true, false, cond}
 use mathlib.Core.List.{List, [], ◌∷◌, ◌++◌, append_assoc, append-nil}
 use native.Mathlib.Omega.{arith}
@@ -167,15 +167,15 @@ said-event false c e r = (cc, cc)
 abbrev AllSay : Option ℕ → Option ℕ → Option ℕ → Option ℕ → Option ℕ → Option ℕ → CallC → Type 0
 AllSay a b d f g h c = (a ≡ Some c.code) × (b ≡ Some c.number) × (d ≡ Some c.peer) × (f ≡ Some c.size) × (g ≡ Some c.first) × (h ≡ Some c.second)
 
--- Where the fields give an event, each says its number.
-all-say : (a b d f g h : Option ℕ) (e : Event) → event_in (numbers_in a b d f g h) ≡ Ok e → (c : CallC) × AllSay a b d f g h c × (event_in (Some c) ≡ Ok e)
-all-say (Some a) (Some b) (Some d) (Some f) (Some g) (Some h) e r = (card a b d f g h, (refl, refl, refl, refl, refl, refl), r)
-all-say None b d f g h e r = absurd cc
-all-say (Some a) None d f g h e r = absurd cc
-all-say (Some a) (Some b) None f g h e r = absurd cc
-all-say (Some a) (Some b) (Some d) None g h e r = absurd cc
-all-say (Some a) (Some b) (Some d) (Some f) None h e r = absurd cc
-all-say (Some a) (Some b) (Some d) (Some f) (Some g) None e r = absurd cc
+-- Where the fields give a card, each says its number.
+all-say : (a b d f g h : Option ℕ) (c : CallC) → numbers_in a b d f g h ≡ Some c → AllSay a b d f g h c
+all-say (Some a) (Some b) (Some d) (Some f) (Some g) (Some h) c r = let e : card a b d f g h ≡ c = cc in rw (← e) (refl, refl, refl, refl, refl, refl)
+all-say None b d f g h c r = absurd cc
+all-say (Some a) None d f g h c r = absurd cc
+all-say (Some a) (Some b) None f g h c r = absurd cc
+all-say (Some a) (Some b) (Some d) None g h c r = absurd cc
+all-say (Some a) (Some b) (Some d) (Some f) None h c r = absurd cc
+all-say (Some a) (Some b) (Some d) (Some f) (Some g) None c r = absurd cc
 
 module _ (line : List ℕ) (long : length line ≡ 73) where
   -- the number in the columns of a line
@@ -220,14 +220,36 @@ module _ (line : List ℕ) (long : length line ≡ 73) where
       let same = events.read-is-written c is.0 in
       rw (← is.1, same.0, same.1) (line-is-written c say, room c say)
 
-  card-event : (e : Event) → event_in (numbers_in (field 0 2) (field 2 21) (field 23 4) (field 27 4) (field 31 21) (field 52 21)) ≡ Ok e → (card_text (card_of e) ≡ line) × (is_carried e ≡ true)
-  card-event e r = let all = all-say _ _ _ _ _ _ e r in said-card all.0 e all.1 all.2
+  -- the card of its fields, where there is one
+  abbrev numbers : Option CallC
+  numbers = numbers_in (field 0 2) (field 2 21) (field 23 4) (field 27 4) (field 31 21) (field 52 21)
+
+  says : (c : CallC) → numbers ≡ Some c → Say c
+  says c r = all-say _ _ _ _ _ _ c r
+
+  card-event : (e : Event) → event_in numbers ≡ Ok e → (card_text (card_of e) ≡ line) × (is_carried e ≡ true)
+  card-event e r = go numbers refl r
+    where
+      go : (x : Option CallC) → numbers ≡ x → event_in x ≡ Ok e → (card_text (card_of e) ≡ line) × (is_carried e ≡ true)
+      go None q h = absurd cc
+      go (Some c) q h = said-card c e (says c q) h
 
 pub read-is-written : CardReadIsWritten
 unfolding event_read card_read
 read-is-written line e r =
     let long = read-event (eqb (length line) 73) _ e r in
     card-event line (eqb-true (length line) 73 long.0) e long.1
+
+-- a line that is read as six numbers holds no newline
+pub card_unbroken : (line : List ℕ) (c : CallC) → card_read line ≡ Some c → Unbroken line
+unfolding card_read
+card_unbroken line c r = go (eqb (length line) 73) refl
+  where
+    go : (x : Bool) → eqb (length line) 73 ≡ x → Unbroken line
+    go true e =
+        let long = eqb-true (length line) 73 e in
+        subst Unbroken (line-is-written line long c (says line long c (rw e at r))) (unbroken-card c)
+    go false e = let none : None ≡ Some c = rw e at r in absurd cc
 
 -- The event of the first answer and those of the others, where all are accepted.
 record Accepted (r : Result Event CardRefusal) (rs : List (Result Event CardRefusal)) (es : List Event) : Type 0 where

@@ -7,3 +7,6 @@ pub mod Newlines
 pub mod Cards
 pub mod LineText
 pub mod Lines
+pub mod Fields
+pub mod Places
+pub mod Pairs

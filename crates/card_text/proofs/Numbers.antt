@@ -12,8 +12,8 @@ use lib.Seq.{append_snoc}
 use Rattle.std.specs.List.{between}
 use Rattle.std.proofs.lemmas.List.Edits.{length-between}
 use borrow.Author.Tests.{eqb-true, eqb-false, ne_eqb, leb-true, le-leb}
-use Rattle.card_text.specs.declared.columns.Field.{Field}
-use Rattle.card_text.specs.declared.columns.Field.TheVariants as F
+use Rattle.card_text.specs.Field.{Field}
+use Rattle.card_text.specs.Field as F
 use Rattle.std.specs.Prelude.{Some}
 use Rattle.card_text.specs.Columns.{places, column, max_number, first_byte, next_byte, field_step, field_from, number_in, number_of}
 use Rattle.card_text.specs.Claims.{NumberWrittenIsRead, NumberReadIsWritten}

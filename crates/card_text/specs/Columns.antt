@@ -2,8 +2,8 @@
 -- digits. Definitions only.
 use Rattle.std.specs.Prelude.{ℕ, zero, suc, ◌+◌, ◌*◌, ◌-◌, ◌/◌, ◌%◌, Bool, false, cond, List, [], ◌∷◌, ◌++◌, eqb, leb, Option, Some, None}
 use Rattle.std.specs.List.{fold}
-use Rattle.card_text.specs.declared.columns.Field.{Field}
-use Rattle.card_text.specs.declared.columns.Field.TheVariants as F
+use Rattle.card_text.specs.Field.{Field}
+use Rattle.card_text.specs.Field as F
 
 -- ---- writing
 
@@ -68,3 +68,7 @@ number_in F.Bad = None
 -- The number in these columns, where they hold one.
 abbrev pub number_of : List ℕ → Option ℕ
 number_of bs = number_in (field_of bs)
+
+-- The number whose digits so far say v, where these bytes are its others.
+abbrev pub number_behind : ℕ → List ℕ → Option ℕ
+number_behind v bs = number_in (field_from (F.Number v) bs)

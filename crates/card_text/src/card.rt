@@ -1,14 +1,14 @@
 // Event cards (section 14): a line of 73 columns, the six numbers in it, and the event that they say, both ways. Definitions in
 // specs/Cards.
 
-ghost use Rattle.std.specs.Prelude.{◌≡◌, ◌∷◌, [], cond, length, take, Option, Ok};
+ghost use Rattle.std.specs.Prelude.{◌≡◌, ◌∷◌, [], cond, length, take, Option, Some, Ok};
 ghost use Rattle.std.specs.Bool.{OnTrue};
 ghost use Rattle.std.proofs.lemmas.List.Edits.{sets};
 ghost use Rattle.wire.specs.Events.{card_of};
-ghost use Rattle.card_text.specs.Cards.{card_read, event_read, card_line, can_write_card, line_number, refused_with, cards_in};
+ghost use Rattle.card_text.specs.Cards.{card_read, event_in, event_read, form_number, card_line, can_write_card, line_number, refused_with, cards_in};
 ghost use Rattle.card_text.specs.Claims.{WideCard};
 
-use crate::columns::{number_of, put_column};
+use crate::columns::{number_of_2, number_of_4, number_of_21, put_column};
 use wire::calls::CallC;
 use wire::events::{CardRefusal, Event, card_of, event_of, is_card, is_carried};
 
@@ -21,6 +21,7 @@ pub const CARD: usize = COLUMNS + 1;
 // ---- reading
 
 /// The six numbers of a line, which is handed in without its newline; none where the line is not of the form (rule 14.1).
+#[inline(always)]
 #[tactic(auto, unfolding(crate::specs::Cards::card_read))]
 pub fn read_card(line: &[u8]) -> Option<CallC>
     ensures { result ≡ card_read line.now }
@@ -30,13 +31,25 @@ pub fn read_card(line: &[u8]) -> Option<CallC>
     }
     // By the bounds of the columns.
     Some(CallC {
-        code: number_of(&line[..2])?,
-        number: number_of(&line[2..23])?,
-        peer: number_of(&line[23..27])?,
-        size: number_of(&line[27..31])?,
-        first: number_of(&line[31..52])?,
-        second: number_of(&line[52..73])?,
+        code: number_of_2(&line[..2])?,
+        number: number_of_21(&line[2..23])?,
+        peer: number_of_4(&line[23..27])?,
+        size: number_of_4(&line[27..31])?,
+        first: number_of_21(&line[31..52])?,
+        second: number_of_21(&line[52..73])?,
     })
+}
+
+/// The event of a card's six numbers. Refused with 22 where they are no card (rule 14.3).
+#[inline(always)]
+pub fn event_in(c: CallC) -> Result<Event, CardRefusal>
+    ensures value { result ≡ event_in (Some c) }
+    ensures number { refused_with result ≡ form_number (Some c) }
+{
+    if !is_card(c) {
+        return Err(CardRefusal::NoCard);
+    }
+    Ok(event_of(c))
 }
 
 /// The event of a line, which is handed in without its newline. Refused with 21 where the line is not of the form, with 22 where its
@@ -47,10 +60,7 @@ pub fn read_event(line: &[u8]) -> Result<Event, CardRefusal>
     ensures number { refused_with result ≡ line_number line.now }
 {
     let c = read_card(line).ok_or(CardRefusal::NotOfForm)?;
-    if !is_card(c) {
-        return Err(CardRefusal::NoCard);
-    }
-    Ok(event_of(c))
+    event_in(c)
 }
 
 // ---- writing

@@ -1,88 +1,242 @@
 // Decimal numbers in fixed columns of bytes (rule 14.1): right-justified, no leading zeros. Definitions in specs/Columns.
 
-ghost use Rattle.std.specs.Prelude.{◌%◌, ◌≡◌, Option, length};
-ghost use Rattle.card_text.specs.Columns.{digit, place_byte, places, column, first_byte, next_byte, field_step, number_in, number_of};
-
-// What the bytes of a field are, read from the left.
-#[derive(Clone, Copy)]
-enum Field {
-    // No byte but blanks.
-    Blank,
-    // The digit 0.
-    Zero,
-    // A number above 0.
-    Number(u64),
-    // No number of this form, and none can come of it.
-    Bad,
-}
+ghost use Rattle.std.specs.Prelude.{◌+◌, ◌/◌, ◌%◌, ◌≡◌, ◌≢◌, ◌≤◌, ◌<◌, Option, [], ◌∷◌, length, drop, get_or, set, replicate};
+ghost use Rattle.std.specs.Bool.{OnTrue};
+ghost use Rattle.card_text.specs.Columns.{digit, place_byte, column, number_of, number_behind};
 
 // ---- reading
 
-// A byte behind blanks.
-#[tactic(auto, unfolding(crate::specs::Columns::first_byte))]
-fn first_byte(b: u8) -> Field
-    ensures { result ≡ first_byte b }
+// Eight blanks.
+const BLANKS: u64 = 0x2020_2020_2020_2020;
+
+// Whether eight blanks stand there.
+#[inline(always)]
+fn has_eight_blanks(columns: &[u8], i: usize) -> bool
+    requires { i + 8 ≤ length columns.now }
+    ensures { OnTrue result (number_of (drop i columns.now) ≡ number_of (drop (i + 8) columns.now)) }
 {
-    match b {
-        b' ' => Field::Blank,
-        b'0' => Field::Zero,
-        b'1'..=b'9' => Field::Number(u64::from(b - b'0')),
-        _ => Field::Bad,
-    }
+    let eight = [
+        columns[i],
+        columns[i + 1],
+        columns[i + 2],
+        columns[i + 3],
+        columns[i + 4],
+        columns[i + 5],
+        columns[i + 6],
+        columns[i + 7],
+    ];
+    u64::from_le_bytes(eight) == BLANKS
 }
 
-// A byte behind the digits of v.
-#[tactic(auto, unfolding(crate::specs::Columns::next_byte))]
-fn next_byte(v: u64, b: u8) -> Field
-    ensures { result ≡ next_byte v b }
+// Where blanks end, by eights: fewer than eight bytes more may be blanks.
+fn behind_eights(columns: &[u8]) -> usize
+    ensures bound { result ≤ length columns.now }
+    ensures same { number_of (drop result columns.now) ≡ number_of columns.now }
 {
-    if !b.is_ascii_digit() {
-        return Field::Bad;
+    let mut i = 0;
+    while columns.len() - i >= 8 {
+        if !has_eight_blanks(columns, i) {
+            return i;
+        }
+        i += 8;
     }
-    let digit = u64::from(b - b'0');
-    v.checked_mul(10)
-        .and_then(|tens| tens.checked_add(digit))
-        .map_or(Field::Bad, Field::Number)
+    i
 }
 
-impl Field {
-    // The field with one byte more.
-    #[tactic(auto, unfolding(crate::specs::Columns::field_step))]
-    fn step(self, b: u8) -> Field
-        ensures { result ≡ field_step self b }
-    {
-        match self {
-            Field::Blank => first_byte(b),
-            Field::Number(v) => next_byte(v, b),
-            Field::Zero | Field::Bad => Field::Bad,
-        }
+// Where the first byte stands that is no blank.
+fn behind_blanks(columns: &[u8]) -> usize
+    ensures bound { result ≤ length columns.now }
+    ensures same { number_of (drop result columns.now) ≡ number_of columns.now }
+    ensures stops { get_or columns.now result 0 ≢ 32 }
+{
+    let mut i = behind_eights(columns);
+    while i < columns.len() && columns[i] == b' ' {
+        i += 1;
     }
+    i
+}
 
-    // The number, where there is one.
-    #[tactic(auto, unfolding(crate::specs::Columns::number_in))]
-    fn number(self) -> Option<u64>
-        ensures { result ≡ number_in self }
-    {
-        match self {
-            Field::Zero => Some(0),
-            Field::Number(v) => Some(v),
-            Field::Blank | Field::Bad => None,
+// The number whose digits so far say v, where the bytes are its others.
+fn number_behind(v: u64, digits: &[u8]) -> Option<u64>
+    ensures { result ≡ number_behind v digits.now }
+{
+    let mut number = v;
+    for b in digits {
+        if !b.is_ascii_digit() {
+            return None;
         }
+        number = number.checked_mul(10)?.checked_add(u64::from(*b - b'0'))?;
     }
+    Some(number)
 }
 
 /// The number in these columns; none where they do not hold one number of 64 bits, right-justified behind blanks (rule 14.1).
-#[tactic(auto, unfolding(crate::specs::Columns::field_from))]
+#[inline(never)]
 pub fn number_of(columns: &[u8]) -> Option<u64>
     ensures { result ≡ number_of columns.now }
 {
-    columns
-        .iter()
-        .fold(Field::Blank, |field, b| field.step(*b))
-        .number()
+    let i = behind_blanks(columns);
+    if i == columns.len() {
+        return None;
+    }
+    let first = columns[i];
+    if !first.is_ascii_digit() {
+        return None;
+    }
+    if first == b'0' {
+        return (i + 1 == columns.len()).then_some(0);
+    }
+    number_behind(u64::from(first - b'0'), &columns[i + 1..])
+}
+
+// ---- reading few columns: numbers of up to four digits, which need no test of their size
+
+// The number whose digits so far say v, where one byte more is its last digit.
+#[inline(always)]
+fn with_last(v: u64, last: u8) -> Option<u64>
+    requires { v < 1000 }
+    ensures { result ≡ number_behind v (last ∷ []) }
+{
+    if !last.is_ascii_digit() {
+        return None;
+    }
+    Some(v * 10 + u64::from(last - b'0'))
+}
+
+// Where two bytes more are its last digits.
+#[inline(always)]
+fn with_two(v: u64, third: u8, last: u8) -> Option<u64>
+    requires { v < 100 }
+    ensures { result ≡ number_behind v (third ∷ last ∷ []) }
+{
+    if !third.is_ascii_digit() {
+        return None;
+    }
+    with_last(v * 10 + u64::from(third - b'0'), last)
+}
+
+// Where three bytes more are its last digits.
+#[inline(always)]
+fn with_three(v: u64, second: u8, third: u8, last: u8) -> Option<u64>
+    requires { v < 10 }
+    ensures { result ≡ number_behind v (second ∷ third ∷ last ∷ []) }
+{
+    if !second.is_ascii_digit() {
+        return None;
+    }
+    with_two(v * 10 + u64::from(second - b'0'), third, last)
+}
+
+// The number in one column.
+#[inline(always)]
+fn number_in_one(last: u8) -> Option<u64>
+    ensures { result ≡ number_of (last ∷ []) }
+{
+    if !last.is_ascii_digit() {
+        return None;
+    }
+    Some(u64::from(last - b'0'))
+}
+
+// The number in two columns.
+#[inline(always)]
+fn number_in_two(third: u8, last: u8) -> Option<u64>
+    ensures { result ≡ number_of (third ∷ last ∷ []) }
+{
+    if third == b' ' {
+        return number_in_one(last);
+    }
+    if !third.is_ascii_digit() {
+        return None;
+    }
+    if third == b'0' {
+        return None;
+    }
+    with_last(u64::from(third - b'0'), last)
+}
+
+// The number in three columns.
+#[inline(always)]
+fn number_in_three(second: u8, third: u8, last: u8) -> Option<u64>
+    ensures { result ≡ number_of (second ∷ third ∷ last ∷ []) }
+{
+    if second == b' ' {
+        return number_in_two(third, last);
+    }
+    if !second.is_ascii_digit() {
+        return None;
+    }
+    if second == b'0' {
+        return None;
+    }
+    with_two(u64::from(second - b'0'), third, last)
+}
+
+// The number in four columns.
+#[inline(always)]
+fn number_in_four(first: u8, second: u8, third: u8, last: u8) -> Option<u64>
+    ensures { result ≡ number_of (first ∷ second ∷ third ∷ last ∷ []) }
+{
+    if first == b' ' {
+        return number_in_three(second, third, last);
+    }
+    if !first.is_ascii_digit() {
+        return None;
+    }
+    if first == b'0' {
+        return None;
+    }
+    with_three(u64::from(first - b'0'), second, third, last)
+}
+
+// ---- reading a card's columns: `number_of` for their three widths. Most numbers of a card have few digits
+
+/// The number in 2 columns.
+#[inline(always)]
+pub fn number_of_2(columns: &[u8]) -> Option<u64>
+    ensures { result ≡ number_of columns.now }
+{
+    if columns.len() == 2 {
+        return number_in_two(columns[0], columns[1]);
+    }
+    number_of(columns)
+}
+
+/// The number in 4 columns.
+#[inline(always)]
+pub fn number_of_4(columns: &[u8]) -> Option<u64>
+    ensures { result ≡ number_of columns.now }
+{
+    if columns.len() == 4 {
+        return number_in_four(columns[0], columns[1], columns[2], columns[3]);
+    }
+    number_of(columns)
+}
+
+/// The number in 21 columns.
+#[inline(always)]
+pub fn number_of_21(columns: &[u8]) -> Option<u64>
+    ensures { result ≡ number_of columns.now }
+{
+    if columns.len() == 21
+        && has_eight_blanks(columns, 0)
+        && has_eight_blanks(columns, 8)
+        && columns[16] == b' '
+    {
+        return number_in_four(columns[17], columns[18], columns[19], columns[20]);
+    }
+    number_of(columns)
 }
 
 // ---- writing
+
+// The digits of 0 to 99, two each.
+static PAIRS: [u8; 200] =
+    *b"00010203040506070809101112131415161718192021222324252627282930313233343536373839404142434445464748495051525354555657585960616263646566676869707172737475767778798081828384858687888990919293949596979899";
+
+// The same with a blank for a 0 in front.
+static FIRST_PAIRS: [u8; 200] =
+    *b" 0 1 2 3 4 5 6 7 8 9101112131415161718192021222324252627282930313233343536373839404142434445464748495051525354555657585960616263646566676869707172737475767778798081828384858687888990919293949596979899";
 
 // The last digit. By `as`: it is below 10, and Rust has no `From` from u64 to u8.
 fn digit(n: u64) -> u8
@@ -91,34 +245,52 @@ fn digit(n: u64) -> u8
     b'0' + (n % 10) as u8
 }
 
-// The byte of a place before the last: a blank where nothing is left of the number.
-fn place_byte(n: u64) -> u8
-    ensures { result ≡ place_byte n }
+// Puts a number's last two digits in two places.
+fn put_pair(out: &mut [u8], at: usize, n: u64)
+    requires { at + 2 ≤ length out.old }
+    ensures { out.new ≡ set (set out.old (at + 1) (digit (n % 10))) at (digit (n / 10 % 10)) }
 {
-    if n == 0 {
-        return b' ';
-    }
-    digit(n)
+    let from = (n % 100) as usize * 2;
+    let (tens, ones) = (PAIRS[from], PAIRS[from + 1]);
+    out[at + 1] = ones;
+    out[at] = tens;
 }
 
-// Puts n into the places before the last, from the right.
-#[tactic(auto, unfolding(crate::specs::Columns::places))]
-fn put_places(out: &mut [u8], n: u64)
-    ensures { out.new ≡ places (length out.old) n }
+// Puts a number below 100 in two places.
+fn put_first_pair(out: &mut [u8], at: usize, n: u64)
+    requires { (at + 2 ≤ length out.old) × (n < 100) }
+    ensures { out.new ≡ set (set out.old (at + 1) (digit (n % 10))) at (place_byte (n / 10)) }
 {
-    if let Some((last, before)) = out.split_last_mut() {
-        *last = place_byte(n);
-        put_places(before, n / 10);
+    let from = n as usize * 2;
+    let (tens, ones) = (FIRST_PAIRS[from], FIRST_PAIRS[from + 1]);
+    out[at + 1] = ones;
+    out[at] = tens;
+}
+
+/// Puts n into columns that stand blank: its digits alone are written. Of a number with more digits than columns, the last digits.
+pub(crate) fn put_digits(out: &mut [u8], n: u64)
+    requires { out.old ≡ replicate (length out.old) 32 }
+    ensures { out.new ≡ column (length out.old) n }
+{
+    let mut rest = n;
+    let mut i = out.len();
+    // From the right, two at a time: a division for two digits.
+    while rest >= 100 && i >= 2 {
+        i -= 2;
+        put_pair(out, i, rest);
+        rest /= 100;
+    }
+    if i >= 2 {
+        put_first_pair(out, i - 2, rest);
+    } else if i == 1 {
+        out[0] = digit(rest);
     }
 }
 
 /// Puts n into the columns. Of a number with more digits than columns, the last digits.
-#[tactic(auto, unfolding(crate::specs::Columns::column))]
 pub fn put_column(out: &mut [u8], n: u64)
     ensures { out.new ≡ column (length out.old) n }
 {
-    if let Some((last, before)) = out.split_last_mut() {
-        *last = digit(n);
-        put_places(before, n / 10);
-    }
+    out.fill(b' ');
+    put_digits(out, n);
 }

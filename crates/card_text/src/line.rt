@@ -1,16 +1,17 @@
 // Output lines (rule 14.4): 69 columns and a newline. Writing the lines of what a card gives, and reading one line back. Definitions in
 // specs/Lines.
 
-ghost use Rattle.std.specs.Prelude.{◌≤◌, ◌≡◌, ◌∷◌, [], cond, length, take, Option, Some};
+ghost use Rattle.std.specs.Prelude.{◌≤◌, ◌≡◌, ◌∷◌, [], cond, length, take, Option, Some, Ok, Err};
+ghost use Rattle.wire.specs.declared.events.CardGiven.TheVariants as O;
 ghost use Rattle.std.specs.Bool.{OnTrue};
 ghost use Rattle.std.proofs.lemmas.List.Edits.{sets};
 ghost use Rattle.lease.specs.Fired.{listed_in};
-ghost use Rattle.card_text.specs.Lines.{line_text, text_of, laid, timer_line, timer_lines, notice_lines, quiet_lines, outcome_text, line_bytes, notice_bytes, timers_bytes, room_of, line_fits, can_write_line, line_read, lines_in};
+ghost use Rattle.card_text.specs.Lines.{line_text, text_of, laid, timer_line, timer_lines, notice_lines, quiet_lines, outcome_text, line_bytes, notice_bytes, timers_bytes, most_bytes, line_fits, can_write_line, line_read, lines_in};
 ghost use Rattle.card_text.specs.Claims.{WideLine};
 
-use crate::columns::{number_of, put_column};
-use lease::{FiredTimer, FiredTimers, Line, Lines, TIMERS};
-use wire::events::{CardGiven, CardRefusal};
+use crate::columns::{number_of, put_digits};
+use lease::{FiredTimer, FiredTimers, LeaseNum, Line, Lines, TIMERS};
+use wire::events::CardRefusal;
 use wire::lines::{LineC, line_c, line_of};
 
 // How long a line is, in bytes, without its newline.
@@ -24,33 +25,28 @@ pub const MOST: usize = TIMERS * LINE + LINE;
 
 // ---- writing: each puts its lines at the start of `out`, and answers how many bytes they are
 
-// A line with its newline.
-#[tactic(auto, unfolding(crate::specs::Lines::line_text, crate::specs::Lines::line_columns))]
-fn line_text(l: LineC) -> [u8; LINE]
-    ensures { result ≡ line_text l }
-{
-    let mut line = [b'\n'; LINE];
-    let (code, line_left) = line.split_at_mut(2);
-    let (number, line_left) = line_left.split_at_mut(21);
-    let (peer, line_left) = line_left.split_at_mut(4);
-    let (first, line_left) = line_left.split_at_mut(21);
-    let (second, _newline) = line_left.split_at_mut(21);
-    put_column(code, l.code);
-    put_column(number, l.number);
-    put_column(peer, l.peer);
-    put_column(first, l.first);
-    put_column(second, l.second);
-    line
-}
+// A line that stands blank, with its newline.
+const BLANK_LINE: [u8; LINE] =
+    *b"                                                                     \n";
 
-#[tactic(auto, using(crate::proofs::LineText::length_line))]
+// A line with its newline: the digits of its numbers over a blank line.
+#[tactic(auto, using(crate::proofs::LineText::length_line), unfolding(crate::specs::Lines::line_text, crate::specs::Lines::line_columns))]
 fn put_line(out: &mut [u8], l: LineC) -> usize
     requires { line_bytes ≤ length out.old }
     ensures value { result ≡ length (line_text l) }
     ensures out_after { out.new ≡ laid (line_text l) out.old }
 {
-    let line = line_text(l);
-    out[..LINE].copy_from_slice(&line);
+    out[..LINE].copy_from_slice(&BLANK_LINE);
+    let (code, behind) = out.split_at_mut(2);
+    let (number, behind) = behind.split_at_mut(21);
+    let (peer, behind) = behind.split_at_mut(4);
+    let (first, behind) = behind.split_at_mut(21);
+    let (second, _behind) = behind.split_at_mut(21);
+    put_digits(code, l.code);
+    put_digits(number, l.number);
+    put_digits(peer, l.peer);
+    put_digits(first, l.first);
+    put_digits(second, l.second);
     LINE
 }
 
@@ -63,10 +59,10 @@ fn timer_line(num: u64, t: FiredTimer) -> LineC
 
 // The timers that fired, in the order of their list.
 #[tactic(auto, using(crate::proofs::LineText::fired_length), unfolding(crate::specs::Lines::timer_lines, crate::specs::Lines::text_of))]
-fn put_fired(out: &mut [u8], num: u64, fired: FiredTimers) -> usize
+fn put_fired(out: &mut [u8], num: u64, fired: &FiredTimers) -> usize
     requires { timers_bytes ≤ length out.old }
-    ensures value { result ≡ length (text_of (timer_lines num (listed_in fired))) }
-    ensures out_after { out.new ≡ laid (text_of (timer_lines num (listed_in fired))) out.old }
+    ensures value { result ≡ length (text_of (timer_lines num (listed_in fired.now))) }
+    ensures out_after { out.new ≡ laid (text_of (timer_lines num (listed_in fired.now))) out.old }
 {
     // By places, since the contract of `chunks_exact_mut` does not say what the bytes are afterwards.
     let listed = &fired.timers[..fired.count.min(TIMERS)];
@@ -76,9 +72,9 @@ fn put_fired(out: &mut [u8], num: u64, fired: FiredTimers) -> usize
     listed.len() * LINE
 }
 
-// A notice's actions, in order.
+/// Puts the lines of a notice's actions, in order.
 #[tactic(auto, using(crate::proofs::LineText::text_of_one, crate::proofs::LineText::first_laid), unfolding(crate::specs::Lines::notice_lines, crate::specs::Lines::text_of))]
-fn put_notice(out: &mut [u8], lines: Lines) -> usize
+pub fn put_notice(out: &mut [u8], lines: Lines) -> usize
     requires { notice_bytes ≤ length out.old }
     ensures value { result ≡ length (text_of (notice_lines lines)) }
     ensures out_after { out.new ≡ laid (text_of (notice_lines lines)) out.old }
@@ -111,28 +107,29 @@ fn put_quiet_end(out: &mut [u8], end: Option<Line>) -> usize
     }
 }
 
-/// Puts the lines of what the card of that number gives at the start of `out`, and answers how many bytes they are (rule 14.4).
-#[tactic(auto, using(crate::proofs::LineText::text_of_one, crate::proofs::LineText::laid_behind, crate::proofs::LineText::text_of_both, crate::proofs::LineText::length_both, crate::proofs::LineText::fired_end), unfolding(crate::specs::Lines::room_of, crate::specs::Lines::outcome_lines, crate::specs::Lines::text_of))]
-pub fn put_outcome(out: &mut [u8], card: u64, outcome: Result<CardGiven, CardRefusal>) -> usize
-    requires { room_of outcome ≤ length out.old }
-    ensures value { result ≡ length (outcome_text card outcome) }
-    ensures out_after { out.new ≡ laid (outcome_text card outcome) out.old }
+/// Puts the line of a card that is refused, 20 with the card's number.
+#[tactic(auto, using(crate::proofs::LineText::text_of_one), unfolding(crate::specs::Lines::outcome_lines, crate::specs::Lines::text_of))]
+pub fn put_refused(out: &mut [u8], card: u64, refusal: CardRefusal) -> usize
+    requires { line_bytes ≤ length out.old }
+    ensures value { result ≡ length (outcome_text card (Err refusal)) }
+    ensures out_after { out.new ≡ laid (outcome_text card (Err refusal)) out.old }
 {
-    match outcome {
-        Err(refusal) => {
-            let l = LineC {
-                second: card,
-                ..line_c(20, 0, 0, u64::from(refusal.number()))
-            };
-            put_line(out, l)
-        }
-        Ok(CardGiven::Done) => 0,
-        Ok(CardGiven::Acted(lines)) => put_notice(out, lines),
-        Ok(CardGiven::Fired(num, fired, end)) => {
-            let fired_end = put_fired(out, num.0, fired);
-            fired_end + put_quiet_end(&mut out[fired_end..], end)
-        }
-    }
+    let l = LineC {
+        second: card,
+        ..line_c(20, 0, 0, u64::from(refusal.number()))
+    };
+    put_line(out, l)
+}
+
+/// Puts the lines of what an advance fired, and the quiet-end line behind them, if there is one.
+#[tactic(auto, using(crate::proofs::LineText::laid_behind, crate::proofs::LineText::text_of_both, crate::proofs::LineText::length_both, crate::proofs::LineText::fired_end), unfolding(crate::specs::Lines::outcome_lines, crate::specs::Lines::text_of))]
+pub fn put_fired_end(out: &mut [u8], num: LeaseNum, fired: &FiredTimers, end: Option<Line>) -> usize
+    requires { most_bytes ≤ length out.old }
+    ensures value { result ≡ length (outcome_text 0 (Ok (O.Fired num fired.now end))) }
+    ensures out_after { out.new ≡ laid (outcome_text 0 (Ok (O.Fired num fired.now end))) out.old }
+{
+    let fired_end = put_fired(out, num.0, fired);
+    fired_end + put_quiet_end(&mut out[fired_end..], end)
 }
 
 // Whether the numbers have room in their columns.

@@ -5,3 +5,4 @@ pub mod Sheets
 pub mod CardCalls
 pub mod BesideLog
 pub mod Examples
+pub mod Written

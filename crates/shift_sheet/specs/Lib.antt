@@ -3,3 +3,4 @@ pub mod Sheet
 pub mod Claims
 pub mod CardCalls
 pub mod Examples
+pub mod Printed

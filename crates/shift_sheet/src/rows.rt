@@ -3,6 +3,7 @@
 ghost use Rattle.std.specs.Prelude.{ℕ, List, ◌*◌, ◌≤◌, ◌≡◌, [], length, IfOk};
 ghost use Rattle.lease.specs.Bitmaps.{capacity};
 ghost use Rattle.lease.specs.RecordCheck.{record_valid};
+ghost use Rattle.refusals.specs.Fits.{ManagerFits};
 ghost use Rattle.card_text.specs.Lines.{laid};
 ghost use Rattle.card_stream.specs.Reader.{session_of};
 ghost use Rattle.shift_sheet.specs.CardCalls.{calls_of};
@@ -14,9 +15,9 @@ ghost use Rattle.shift_sheet.specs.Sheet.{sheet_of as Sheet·sheet_of};
 use card_stream::session::Session;
 use card_text::columns::put_column;
 use lease::{Manager, Peer, ROWS, Reading, Refusal, Timer};
-use peer_rows::each_row::{granted_row, leased_row};
-use peer_rows::pass::pass_over;
-use refusals::records::{CheckedManager, check_record};
+use peer_rows::each_row::{Granted, Leased};
+use peer_rows::pass::sets_over;
+use refusals::records::check_record;
 use timer::read::left_ms;
 
 // How long a row is, in bytes, with its newline.
@@ -42,7 +43,7 @@ pub struct SheetRow {
 }
 
 /// A sheet as it is printed: the first `length` bytes.
-#[derive(Clone, Copy)]
+#[derive(Drop)]
 pub struct Sheet {
     pub length: usize,
     pub bytes: [u8; ROOM],
@@ -106,15 +107,15 @@ fn peer_row(now: Reading, id: usize, row: Peer) -> SheetRow
 // ---- the totals: how many promises are sent, how many that are held are active
 
 #[tactic(auto, using(crate::proofs::Totals::granted_rows, crate::proofs::Totals::leased_rows), unfolding(crate::specs::Sheet::total_row, lease::specs::Passes::pass_over))]
-fn total_row(checked: CheckedManager) -> SheetRow
-    ensures { result ≡ total_row checked.manager }
+fn total_row(m: &Manager) -> SheetRow
+    requires { m.now.population ≤ capacity }
+    ensures { result ≡ total_row m.entry.now }
 {
-    let m = checked.manager;
     SheetRow {
         id: m.population as u64,
-        grant: pass_over(&m, |_, row| granted_row(row)).count,
+        grant: sets_over(&m.peers, m.me, m.population, &Granted).count,
         grant_left: 0,
-        held: pass_over(&m, |_, row| leased_row(m.now, row)).count,
+        held: sets_over(&m.peers, m.me, m.population, &Leased { now: m.now }).count,
         held_left: 0,
     }
 }
@@ -171,23 +172,25 @@ fn put_peers(out: &mut [u8], m: &Manager) -> usize
 
 // All rows: the peers', and the last one.
 #[tactic(auto, using(crate::proofs::Text::sheet_parts, crate::proofs::Text::sheet_length, crate::proofs::Text::peers_length, card_text::proofs::LineText::laid_behind))]
-fn put_sheet(out: &mut [u8], checked: CheckedManager) -> usize
-    requires { sheet_bytes ≤ length out.old }
-    ensures value { result ≡ length (sheet_text checked.manager) }
-    ensures out_after { out.new ≡ laid (sheet_text checked.manager) out.old }
+fn put_sheet(out: &mut [u8], m: &Manager) -> usize
+    requires fits { ManagerFits m.now }
+    requires room { sheet_bytes ≤ length out.old }
+    ensures value { result ≡ length (sheet_text m.entry.now) }
+    ensures out_after { out.new ≡ laid (sheet_text m.entry.now) out.old }
 {
-    let written = put_peers(out, &checked.manager);
-    written + put_row(&mut out[written..], total_row(checked))
+    let written = put_peers(out, m);
+    written + put_row(&mut out[written..], total_row(m))
 }
 
 // The sheet of a record.
 #[tactic(auto, using(crate::proofs::Text::sheet_room), unfolding(crate::specs::Sheet::printed))]
-fn print_sheet(checked: CheckedManager) -> Sheet
-    ensures value { result ≡ printed (sheet_text checked.manager) }
+fn print_sheet(m: &Manager) -> Sheet
+    requires { ManagerFits m.now }
+    ensures value { result ≡ printed (sheet_text m.entry.now) }
     ensures in_bounds { result.length ≤ sheet_bytes }
 {
     let mut bytes = [0; ROOM];
-    let length = put_sheet(&mut bytes, checked);
+    let length = put_sheet(&mut bytes, m);
     Sheet { length, bytes }
 }
 
@@ -204,23 +207,24 @@ fn empty_sheet() -> Sheet
 
 // The sheet of a record, empty where there is none; a record that fails the check is refused with 15.
 #[tactic(auto, unfolding(crate::specs::Sheet::sheet_on))]
-fn sheet_on(manager: Option<Manager>) -> Result<Sheet, Refusal>
-    ensures value { result ≡ Sheet·sheet_on manager }
+fn sheet_on(manager: &Option<Manager>) -> Result<Sheet, Refusal>
+    ensures value { result ≡ Sheet·sheet_on manager.now }
     ensures in_bounds { IfOk result (λ sheet. sheet.length ≤ sheet_bytes) }
 {
-    match manager {
-        None => Ok(empty_sheet()),
-        Some(m) => Ok(print_sheet(check_record(m)?)),
-    }
+    let Some(m) = manager else {
+        return Ok(empty_sheet());
+    };
+    check_record(m)?;
+    Ok(print_sheet(m))
 }
 
 /// The sheet of the session that cards left: empty without an accepted set-up. Of a session that an input has led to it is never refused, its
 /// rows are those of the rules' record, and its totals those of the log (rule 15.3); of any other, a record that fails the check is refused
 /// with 15.
-pub fn sheet_of(session: Session) -> Result<Sheet, Refusal>
-    ensures value { result ≡ Sheet·sheet_of session }
+pub fn sheet_of(session: &Session) -> Result<Sheet, Refusal>
+    ensures value { result ≡ Sheet·sheet_of session.now }
     ensures in_bounds { IfOk result (λ sheet. sheet.length ≤ sheet_bytes) }
-    ensures beside_log { (input : List ℕ) → session ≡ session_of input → PrintedByLog result (calls_of input) }
+    ensures beside_log { (input : List ℕ) → session.now ≡ session_of input → PrintedByLog result (calls_of input) }
 {
-    sheet_on(session.manager)
+    sheet_on(&session.manager)
 }

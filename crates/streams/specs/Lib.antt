@@ -1,0 +1,2 @@
+-- What is written where writing may fail.
+pub mod Streams
