@@ -10,7 +10,7 @@ use biasflint::{
     Line, Reading, Refusal, ReplicaId,
 };
 
-use crate::arrays;
+use crate::arrays::{self, FiredList};
 
 #[derive(Clone, Copy, Debug)]
 pub enum Call {
@@ -122,7 +122,7 @@ fn or_refused(answer: Result<AnswerC, Refusal>) -> AnswerC {
 }
 
 fn of_actions(lines: &[Line]) -> AnswerC {
-    let lines: Vec<LineC> = lines.iter().map(line_of).collect();
+    let lines: Vec<LineC> = lines.iter().map(|&(num, action)| line_of(num, action)).collect();
     answer(&lines)
 }
 
@@ -131,7 +131,7 @@ fn of_advance(fired: Advanced) -> AnswerC {
         LineC { code: 31, first: fired.sent.bits(), second: fired.held.bits(), ..LineC::default() };
     let lines = match fired.quiet_end {
         None => answer(&[sets]),
-        Some(line) => answer(&[sets, line_of(&line)]),
+        Some((num, action)) => answer(&[sets, line_of(num, action)]),
     };
     AnswerC { fired: fired.fired.into(), ..lines }
 }
@@ -149,8 +149,10 @@ fn of_time_left(left: Option<Duration>) -> AnswerC {
     answer(&[LineC { code: 34, peer, first, ..LineC::default() }])
 }
 
-fn line_of((num, action): &Line) -> LineC {
-    let (code, peer, first, second) = match *action {
+/// An action as its line.
+#[inline]
+pub fn line_of(num: LeaseNum, action: LeaseAction) -> LineC {
+    let (code, peer, first, second) = match action {
         LeaseAction::SendLeaseMsg { peer, msg } => sent(peer as u64, msg),
         LeaseAction::BcastLeaseMsgs { peers, msg: LeaseMsg::Guard { accept_bar } } => {
             (1, accept_bar.is_some().into(), peers.bits(), accept_bar.unwrap_or_default().0)
@@ -167,6 +169,7 @@ fn line_of((num, action): &Line) -> LineC {
     LineC { code, number: num.0, peer, first, second }
 }
 
+#[inline]
 fn sent(peer: u64, msg: LeaseMsg) -> (u64, u64, u64, u64) {
     match msg {
         LeaseMsg::GuardReply => (3, peer, 0, 0),
@@ -218,6 +221,40 @@ impl Side for Raw {
     }
 }
 
+/// A notice of the library that does not look at the record first. It has none: where it has, the
+/// name goes here, and the table's column is filled.
+pub const WITHOUT_LOOK: Option<fn(&mut ManagerC, CallC) -> AnswerC> = None;
+
+/// That notice, on the record of `Raw`.
+#[derive(Clone)]
+pub struct Unlooked(pub ManagerC);
+
+impl Unlooked {
+    fn call(&mut self, card: CallC) -> AnswerC {
+        WITHOUT_LOOK.expect("a call without the look at the record")(&mut self.0, card)
+    }
+}
+
+impl Side for Unlooked {
+    type Given = CallC;
+
+    fn set_up(set_up: &SetUp) -> Self {
+        Unlooked(Raw::set_up(set_up).0)
+    }
+
+    fn give(call: &Call) -> CallC {
+        call.card()
+    }
+
+    fn answer(&mut self, call: &Call) -> AnswerC {
+        self.call(call.card())
+    }
+
+    fn run(&mut self, card: &CallC) {
+        black_box(self.call(*card));
+    }
+}
+
 /// The library through its typed calls.
 #[derive(Clone)]
 pub struct Typed(pub LeaseManager);
@@ -257,21 +294,28 @@ impl Side for Typed {
         match *call {
             Call::Notice(num, notice) => drop(black_box(self.0.add_notice(num, notice))),
             Call::Advance(to) => drop(black_box(self.0.advance(to))),
+            Call::Quiet => drop(black_box(self.0.assume_unknown_grants())),
+            Call::Refresh(set) => drop(black_box(self.0.attempt_refresh(set.as_ref()))),
+            Call::Drift(setting) => drop(black_box(self.0.set_drift(setting))),
+            Call::GrantSet => drop(black_box(self.0.grant_set())),
             Call::LeaseSet => drop(black_box(self.0.lease_set())),
-            _ => drop(black_box(self.answer(call))),
+            Call::LeaseCnt => drop(black_box(self.0.lease_cnt())),
+            Call::TimeLeft(peer) => drop(black_box(self.0.time_left(peer))),
         }
     }
 }
 
-/// The plain program. Its actions go to a list that is emptied before each call.
+/// The plain program. Its actions go to a list that is emptied before each call, and so do the
+/// timers that fire.
 pub struct Plain {
     pub manager: arrays::Manager,
     actions: Vec<Line>,
+    fired: FiredList,
 }
 
 impl Plain {
     fn of(manager: arrays::Manager) -> Self {
-        Plain { manager, actions: Vec::with_capacity(3) }
+        Plain { manager, actions: Vec::with_capacity(3), fired: FiredList::EMPTY }
     }
 }
 
@@ -295,13 +339,13 @@ impl Side for Plain {
     }
 
     fn answer(&mut self, call: &Call) -> AnswerC {
-        let Plain { manager, actions } = self;
+        let Plain { manager, actions, fired } = self;
         actions.clear();
         or_refused(match *call {
             Call::Notice(num, notice) => {
                 manager.add_notice(num, notice, actions).map(|()| of_actions(actions))
             }
-            Call::Advance(to) => manager.advance(to).map(of_advance),
+            Call::Advance(to) => manager.advance(to, fired).map(of_advance),
             Call::Quiet => {
                 manager.assume_unknown_grants();
                 Ok(answer(&[]))
@@ -325,9 +369,14 @@ impl Side for Plain {
                 let done = self.manager.add_notice(num, notice, &mut self.actions);
                 black_box((done.is_ok(), &self.actions));
             }
-            Call::Advance(to) => drop(black_box(self.manager.advance(to))),
+            Call::Advance(to) => drop(black_box(self.manager.advance(to, &mut self.fired))),
+            Call::Quiet => self.manager.assume_unknown_grants(),
+            Call::Refresh(set) => drop(black_box(self.manager.attempt_refresh(set))),
+            Call::Drift(setting) => self.manager.set_drift(setting),
+            Call::GrantSet => drop(black_box(self.manager.grant_set())),
             Call::LeaseSet => drop(black_box(self.manager.lease_set())),
-            _ => drop(black_box(self.answer(call))),
+            Call::LeaseCnt => drop(black_box(self.manager.lease_cnt())),
+            Call::TimeLeft(peer) => drop(black_box(self.manager.time_left(peer))),
         }
     }
 }

@@ -1,8 +1,9 @@
 //! The lists of calls that are timed.
 
-use biasflint::{LeaseMsg, LeaseNotice, LeaseNum, Reading, ReplicaId};
+use biasflint::raw::CallC;
+use biasflint::{DriftSetting, LeaseMsg, LeaseNotice, LeaseNum, Reading, ReplicaId};
 
-use crate::calls::{Call, SetUp};
+use crate::calls::{Call, Raw, SetUp, Side};
 
 const T: u64 = 10_000_000_000;
 const MS: u64 = 1_000_000;
@@ -35,6 +36,13 @@ pub struct Case {
     pub original: Original,
 }
 
+impl Case {
+    /// Nothing but notices is timed.
+    pub fn is_of_notices(&self) -> bool {
+        self.list.iter().all(|call| matches!(call, Call::Notice(..)))
+    }
+}
+
 /// Answered by one action under the old number, and changes nothing.
 pub fn last_of(population: usize) -> Call {
     recv(OLD, Room::of(population).peers().next().unwrap(), LeaseMsg::Revoke)
@@ -59,7 +67,12 @@ pub fn all(population: usize) -> Vec<Case> {
         room.case("DoRevoke to all", granted(), vec![DO_REVOKE; 32], Manager),
         room.case("outdated notice, nothing", granted(), room.outdated(), Manager),
         room.case("notice refused, peer not known", granted(), room.unknown(), Nothing),
+        room.case("grant_set", granted(), vec![Call::GrantSet; 64], Manager),
         room.case("lease_set", granted(), vec![Call::LeaseSet; 64], Manager),
+        room.case("lease_cnt", granted(), vec![Call::LeaseCnt; 64], Manager),
+        room.case("time_left", granted(), room.times_left(), Nothing),
+        room.case("refresh, all marked", granted(), vec![Call::Refresh(None)], Manager),
+        room.case("quiet start", granted(), vec![Call::Quiet; 64], Manager),
         room.case(ADVANCE, granted(), room.small_steps(), Clock),
         room.case("advance, one timer due", room.one_short(), vec![room.at_the_end()], Nothing),
         room.case("advance, all timers due", granted(), vec![room.at_the_end()], timers),
@@ -72,6 +85,40 @@ pub fn all(population: usize) -> Vec<Case> {
         ),
         Case { units: 1, ..timeouts },
     ]
+}
+
+/// A card of each code, in their order, for the state of `granted`.
+pub fn one_of_each(population: usize) -> [(&'static str, CallC); 15] {
+    let room = Room::of(population);
+    let peer = room.peers().next().expect("a peer");
+    let call = |name, call: Call| (name, call.card());
+    [
+        ("set-up", room.set_up.card()),
+        call("advance, all due", room.much_later()),
+        call("NewGrants", NEW_GRANTS),
+        call("DoRevoke", DO_REVOKE),
+        call("ClearHeld", CLEAR_HELD),
+        call("message, Promise", recv(NUM, peer, LeaseMsg::Promise)),
+        call("GrantTimeout", Call::Notice(NUM, LeaseNotice::GrantTimeout { peer })),
+        call("LeaseTimeout", Call::Notice(NUM, LeaseNotice::LeaseTimeout { peer })),
+        call("quiet start", Call::Quiet),
+        call("refresh", Call::Refresh(None)),
+        call("drift setting", Call::Drift(DriftSetting::Drifting(25))),
+        call("grant set", Call::GrantSet),
+        call("lease set", Call::LeaseSet),
+        call("lease count", Call::LeaseCnt),
+        call("time left", Call::TimeLeft(peer)),
+    ]
+}
+
+/// The library's record with a promise sent to each peer and one held from each.
+pub fn granted(population: usize) -> Raw {
+    let room = Room::of(population);
+    let mut side = Raw::set_up(&room.set_up);
+    for call in [FIRST].iter().chain(&room.granted()) {
+        side.run(&call.card());
+    }
+    side
 }
 
 /// The first call after set-up: the number of all others is active from then on.
@@ -194,6 +241,10 @@ impl Room {
 
     fn unknown(&self) -> Vec<Call> {
         vec![recv(NUM, self.set_up.population, LeaseMsg::Promise); 64]
+    }
+
+    fn times_left(&self) -> Vec<Call> {
+        self.peers().cycle().take(64).map(Call::TimeLeft).collect()
     }
 
     fn small_steps(&self) -> Vec<Call> {

@@ -1,5 +1,7 @@
 //! Random calls to the plain program and to the library: every answer and, after every call, the
-//! tables.
+//! tables. And random cards to the two replays: every byte.
+
+use std::fs;
 
 use biasflint::raw::{ManagerC, PeerC};
 use biasflint::{Bar, Bitmap, DriftSetting, LeaseMsg, LeaseNotice, LeaseNum, Reading};
@@ -7,6 +9,8 @@ use biasflint::{Bar, Bitmap, DriftSetting, LeaseMsg, LeaseNotice, LeaseNum, Read
 use crate::arrays::{Clock, Manager, Row, Timer};
 use crate::calls::{Call, Plain, Raw, SetUp, Side, Typed};
 use crate::random::Random;
+use crate::replay::{LINE, Session};
+use crate::{cards, replay, stream};
 
 const SESSION: usize = 500;
 
@@ -50,6 +54,60 @@ fn session(random: &mut Random, seen: &mut Seen) {
     }
 }
 
+// ---- cards
+
+/// Room for what the cards print, and more: the library's replay takes a card only where there is
+/// room for the most that one can print.
+pub fn room_for(input: &[u8]) -> usize {
+    const MORE: usize = 1 << 20;
+    let (mut session, mut out) = (Session::blank(), vec![0; MORE]);
+    let lines = input.split_inclusive(|&byte| byte == b'\n');
+    lines.map(|line| session.replay(line, &mut out)).sum::<usize>() + MORE
+}
+
+/// Compares what both sides print for the cards of the crates `replay` and `replay_tour` with the
+/// lines that are kept there. Panics where they differ.
+pub fn kept_cards() {
+    for name in ["replay", "replay_tour"] {
+        let read = |file| {
+            let path = format!("{}/../crates/{name}/{file}", env!("CARGO_MANIFEST_DIR"));
+            fs::read(&path).unwrap_or_else(|error| panic!("{path}: {error}"))
+        };
+        let input = read("stdin");
+        let mut out = vec![0; room_for(&input)];
+        assert!(printed_alike(&input, &mut out, name) == read("stdout"), "the lines of {name}");
+    }
+}
+
+/// Compares what both sides print for that many short inputs with odd lines and bytes. Panics where
+/// they differ; answers how many bytes they printed.
+pub fn random_cards(count: u64) -> usize {
+    (0..count)
+        .map(|seed| {
+            let input = cards::odd_input(seed);
+            let mut out = vec![0; room_for(&input)];
+            printed_alike(&input, &mut out, &format!("input {seed}")).len()
+        })
+        .sum()
+}
+
+/// What both sides print, left in `out`; each writes no more than that.
+pub fn printed_alike<'a>(input: &[u8], out: &'a mut [u8], what: &str) -> &'a [u8] {
+    let written = replay::replay(input, out);
+    let plain = out[..written].to_vec();
+    out.fill(b'*');
+    let written = stream::replay(input, out);
+    let (ours, behind) = out.split_at(written);
+    if let Some(i) = ours.iter().zip(&plain).position(|(a, b)| a != b) {
+        let line =
+            |text: &[u8]| text.chunks(LINE).nth(i / LINE).unwrap().escape_ascii().to_string();
+        panic!("{what}, line {}: ours {}, plain {}", i / LINE, line(ours), line(&plain));
+    }
+    assert_eq!(written, plain.len(), "{what}: how many bytes are printed");
+    assert!(behind.iter().all(|&byte| byte == b'*'), "{what}: what is behind them");
+    ours
+}
+
 // ---- the plain program's tables as the library's record
 
 fn flat(m: &Manager) -> ManagerC {
@@ -72,18 +130,17 @@ fn flat(m: &Manager) -> ManagerC {
 }
 
 fn flat_row(row: &Row) -> PeerC {
-    let (guard_sent, guard_sent_at) = flat_timer(row.guard_sent);
     let (promise_sent, promise_sent_at) = flat_timer(row.promise_sent.map(|grant| grant.timer));
     let (guard_held, guard_held_at) = flat_timer(row.guard_held);
     let (promise_held, promise_held_at) = flat_timer(row.promise_held);
     PeerC {
-        guard_sent,
+        guard_sent: row.guard_sent.into(),
         promise_sent,
         guard_held,
         promise_held,
         revoking: row.promise_sent.is_some_and(|grant| grant.revoking).into(),
         refresh_mark: row.refresh_mark.into(),
-        guard_sent_at,
+        guard_sent_at: 0,
         promise_sent_at,
         guard_held_at,
         promise_held_at,
@@ -102,7 +159,7 @@ fn flat_timer(timer: Option<Timer>) -> (u8, u64) {
 // ---- random calls
 
 impl Random {
-    fn one_in(&mut self, n: u64) -> bool {
+    pub fn one_in(&mut self, n: u64) -> bool {
         self.below(n) == 0
     }
 

@@ -2,9 +2,12 @@
 
 pub mod arrays;
 pub mod calls;
+pub mod cards;
 pub mod cases;
 pub mod compare;
 pub mod measure;
+pub mod replay;
+pub mod stream;
 
 // The generator of the runs beside the Rust.
 #[path = "../../compare/sessions/src/random.rs"]

@@ -3,16 +3,21 @@
 
 use std::{env, fs};
 
-use bench::measure::{self, CALLER, PLAIN, RAW, TYPED, Times, WORKERS};
-use bench::{cases, compare};
+use bench::measure::{self, CALLER, PLAIN, RAW, TYPED, Times, UNLOOKED, WORKERS};
+use bench::replay::LINE;
+use bench::{cards, cases, compare};
 
 const POPULATIONS: [usize; 2] = [5, 64];
 const RANDOM_CALLS: usize = 100_000;
+const RANDOM_INPUTS: u64 = 200;
+const CARDS: usize = 1_000_000;
+const SEED: u64 = 1;
 const REPEATS: usize = 21;
 
 const NOTES: &str = "
 ours card: biasflint::raw::call on a lent record, record check included.
-ours typed: the same by biasflint::LeaseManager.
+ours no look: a notice that does not look at the record first; the library offers none.
+ours typed: the same as card by biasflint::LeaseManager.
 original: LeaseManager::new_and_setup, its task spawned; add_notice, then get_action().await for
   each action. 1 thread: tokio's current-thread runtime, its best case. workers: the multi-thread
   runtime with 2 worker threads, as the original's server runs it (known of the project; the server
@@ -35,10 +40,18 @@ fn main() {
     println!(
         "the plain program and the library give the same answers and the same tables after each."
     );
-    println!("All sides answer alike on every list that is timed.\n");
+    println!("All sides answer alike on every list that is timed.");
+    compare::kept_cards();
+    let bytes = compare::random_cards(RANDOM_INPUTS);
+    println!(
+        "The cards of replay and replay_tour: both replays print the lines that are kept. {RANDOM_INPUTS} random\n\
+         inputs of cards, with odd lines and bytes: both print the same {bytes} bytes.\n"
+    );
     println!("ns per call, the median of {repeats} repetitions. Load before: {}\n", load());
     table(repeats);
-    println!("Load after: {}", load());
+    println!("\nreplay, in memory: ns per card, the median of {repeats} repetitions\n");
+    replay_table(repeats);
+    println!("\nLoad after: {}", load());
     println!("{NOTES}");
 }
 
@@ -52,12 +65,12 @@ fn table(repeats: usize) {
     print_row(
         "",
         "",
-        ["plain", "ours", "ours", "original", "original", "1 thread", "workers", "ours"],
+        ["plain", "ours", "ours", "ours", "original", "original", "1 thread", "workers", "ours"],
     );
     print_row(
         "",
         "pop",
-        ["arrays", "card", "typed", "1 thread", "workers", "/ours", "/ours", "/plain"],
+        ["arrays", "card", "no look", "typed", "1 thread", "workers", "/ours", "/ours", "/plain"],
     );
     let mut spreads = vec![];
     for population in POPULATIONS {
@@ -79,13 +92,33 @@ fn table(repeats: usize) {
     );
 }
 
-fn print_row(name: &str, population: &str, cells: [&str; 8]) {
-    let [a, b, c, d, e, f, g, h] = cells;
-    println!("{name:<34}{population:>4} |{a:>7}{b:>8}{c:>8} |{d:>9}{e:>9} |{f:>9}{g:>9} |{h:>7}");
+fn replay_table(repeats: usize) {
+    println!("{:>38} |{:>7}{:>8} |{:>7}", "pop", "plain", "ours", "ours/plain");
+    for population in POPULATIONS {
+        let input = cards::session(SEED, population, CARDS);
+        let count = input.iter().filter(|&&byte| byte == b'\n').count();
+        let mut out = vec![0; compare::room_for(&input)];
+        let printed = compare::printed_alike(&input, &mut out, "the cards").len();
+        let [plain, ours] = measure::replay(&input, count, &mut out, repeats)
+            .map(|mut times| measure::median(&mut times));
+        println!(
+            "{population:>38} |{plain:>7.0}{ours:>8.0} |{:>7}   {count} cards, {} lines, the same bytes",
+            two_digits(ours / plain),
+            printed / LINE
+        );
+    }
+}
+
+fn print_row(name: &str, population: &str, cells: [&str; 9]) {
+    let [plain, card, no_look, typed, caller, workers, by_caller, by_workers, by_plain] = cells;
+    println!(
+        "{name:<34}{population:>4} |{plain:>7}{card:>8}{no_look:>8}{typed:>8} |{caller:>9}{workers:>9} \
+         |{by_caller:>9}{by_workers:>9} |{by_plain:>7}"
+    );
 }
 
 /// A row of the table, from sorted times.
-fn cells(times: &Times) -> [String; 8] {
+fn cells(times: &Times) -> [String; 9] {
     let median = |side: usize| times[side].get(times[side].len() / 2).copied();
     let ns = |side| median(side).map_or("-".to_string(), |ns| format!("{ns:.0}"));
     let ratio = |a, b| match median(a).zip(median(b)) {
@@ -95,6 +128,7 @@ fn cells(times: &Times) -> [String; 8] {
     [
         ns(PLAIN),
         ns(RAW),
+        ns(UNLOOKED),
         ns(TYPED),
         ns(CALLER),
         ns(WORKERS),

@@ -7,8 +7,9 @@ use biasflint::LeaseNotice;
 use biasflint::raw::{AnswerC, CallC, LineC};
 use original::timed::{self, Line, On, Original, Step};
 
-use crate::calls::{Call, Plain, Raw, SetUp, Side, Typed};
+use crate::calls::{self, Call, Plain, Raw, SetUp, Side, Typed, Unlooked};
 use crate::cases::{self, Case};
+use crate::{replay, stream};
 
 /// How many copies of a state are called in a row, where the list is short.
 const COPIES: usize = 4;
@@ -23,12 +24,13 @@ const ROUNDS: usize = 128;
 const ROUNDS_OF_ORIGINAL: usize = 7;
 
 /// The sides, in the order of the table.
-pub const SIDES: usize = 5;
+pub const SIDES: usize = 6;
 pub const PLAIN: usize = 0;
 pub const RAW: usize = 1;
-pub const TYPED: usize = 2;
-pub const CALLER: usize = 3;
-pub const WORKERS: usize = 4;
+pub const UNLOOKED: usize = 2;
+pub const TYPED: usize = 3;
+pub const CALLER: usize = 4;
+pub const WORKERS: usize = 5;
 
 /// ns per unit of each repetition, by side; none where the side was not measured.
 pub type Times = [Vec<f64>; SIDES];
@@ -50,6 +52,9 @@ pub fn measure(case: &Case, repeats: usize) -> Times {
     for _ in 0..repeats {
         times[PLAIN].push(time(&plain, case, idle));
         times[RAW].push(time(&raw, case, idle));
+        if calls::WITHOUT_LOOK.is_some() && case.is_of_notices() {
+            times[UNLOOKED].push(time(&Unlooked(raw.0), case, idle));
+        }
         times[TYPED].push(time(&typed, case, idle));
         for (side, original) in &mut originals {
             times[*side].push(ready.time_original(original));
@@ -64,6 +69,24 @@ pub fn measure(case: &Case, repeats: usize) -> Times {
 
 fn nanos(time: Duration) -> f64 {
     time.as_nanos() as f64
+}
+
+// ---- replay
+
+/// ns a card of each repetition of the plain replay and of the library's, in turn. The first of each
+/// warms up and does not count.
+pub fn replay(input: &[u8], cards: usize, out: &mut [u8], repeats: usize) -> [Vec<f64>; 2] {
+    let mut time = |run: fn(&[u8], &mut [u8]) -> usize| {
+        let begin = Instant::now();
+        black_box(run(black_box(input), out));
+        nanos(begin.elapsed()) / cards as f64
+    };
+    let mut times = [vec![], vec![]];
+    for _ in 0..=repeats {
+        times[0].push(time(replay::replay));
+        times[1].push(time(stream::replay));
+    }
+    times.map(|times| times[1..].to_vec())
 }
 
 /// Sorts the figures.
@@ -124,6 +147,9 @@ impl<'a> Ready<'a> {
         let list = answers::<Raw>(case);
         assert!(answers::<Plain>(case) == list, "{}: the plain program", case.name);
         assert!(answers::<Typed>(case) == list, "{}: the typed calls", case.name);
+        if calls::WITHOUT_LOOK.is_some() && case.is_of_notices() {
+            assert!(answers::<Unlooked>(case) == list, "{}: without the look", case.name);
+        }
         let ready = Ready { case, prelude, list };
         ready.on().into_iter().for_each(|(_, on)| ready.check_original(on));
         ready
@@ -164,13 +190,10 @@ impl<'a> Ready<'a> {
         for _ in 0..2 {
             let what = format!("{}: the original on {on:?}", self.case.name);
             assert!(
-                sorted(original.answers(self.prelude_steps())) == actions(&self.prelude),
+                sorted(original.answers(self.prelude_steps())) == lines(&self.prelude),
                 "{what}, prelude"
             );
-            assert!(sorted(original.answers(self.list_steps())) == actions(&self.list), "{what}");
-            if let Some(set) = self.list.iter().find(|answer| answer.one.code == 32) {
-                assert_eq!(original.lease_set(), set.one.first, "{what}");
-            }
+            assert!(sorted(original.answers(self.list_steps())) == lines(&self.list), "{what}");
             // if an action was left over, it would come before this answer
             let last = numbers(cases::last_of(self.case.set_up.population).card());
             let left = original.answers(vec![Step::of(last, 1).unwrap()]);
@@ -197,7 +220,7 @@ fn numbers(card: CallC) -> [u64; 6] {
 fn steps(calls: &[Call], answers: &[AnswerC], mut now: u64) -> Vec<Step> {
     let mut steps: Vec<Step> = vec![];
     for (call, answer) in calls.iter().zip(answers) {
-        let count = actions_of(answer).count();
+        let count = lines_of(answer).filter(|line| line[0] <= 13).count();
         match call {
             Call::Advance(to) => {
                 steps.push(Step::advance(Duration::from_nanos(to.0 - now), count));
@@ -215,17 +238,17 @@ fn steps(calls: &[Call], answers: &[AnswerC], mut now: u64) -> Vec<Step> {
     steps
 }
 
-/// The lines of an answer that are actions.
-fn actions_of(answer: &AnswerC) -> impl Iterator<Item = Line> + use<> {
+/// The lines of an answer that the original has: actions, sets and counts.
+fn lines_of(answer: &AnswerC) -> impl Iterator<Item = Line> + use<> {
     let lines = [answer.one, answer.two, answer.three].into_iter().take(answer.count as usize);
     lines
-        .filter(|line| line.code <= 13)
+        .filter(|line| line.code <= 13 || (32..=33).contains(&line.code))
         .map(|LineC { code, number, peer, first, second }| [code, number, peer, first, second])
 }
 
-/// All actions, in one order: the original's timeouts come in any.
-fn actions(answers: &[AnswerC]) -> Vec<Line> {
-    sorted(vec![answers.iter().flat_map(actions_of).collect()])
+/// All of them, in one order: the original's timeouts come in any.
+fn lines(answers: &[AnswerC]) -> Vec<Line> {
+    sorted(vec![answers.iter().flat_map(lines_of).collect()])
 }
 
 fn sorted(lines: Vec<Vec<Line>>) -> Vec<Line> {

@@ -1,2 +1,2 @@
-# engine::questions: lease_cnt leaves out this controller (rule 9.3)
+# flat_engine::questions: lease_cnt leaves out this controller (rule 9.3)
 s/^    1 + /    0 + /

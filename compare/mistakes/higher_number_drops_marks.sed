@@ -1,2 +1,2 @@
-# peer_rows::clearing: a higher number clears the marks (rule 7.2)
-s/\*row = \(.*\);/*row = Peer { refresh_mark: false, ..\1 };/
+# flat_engine::rows: a higher number clears the marks (rule 7.2)
+s/^        drop_sent(row);/& row.refresh_mark = false;/

@@ -1,2 +1,2 @@
-# peer_rows::clearing: a higher number leaves the sent guards (rule 7.2)
-s/\*row = \(.*\);/*row = Peer { guard_sent: row.guard_sent, ..\1 };/
+# flat_engine::rows: a higher number leaves the sent guards (rule 7.2)
+s/^        drop_sent(row);/        row.promise_sent = None;/

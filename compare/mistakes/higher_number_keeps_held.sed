@@ -1,2 +1,2 @@
-# peer_rows::clearing: a higher number leaves the held promises (rule 7.2)
-s/\*row = \(.*\);/*row = Peer { promise_held: row.promise_held, ..\1 };/
+# flat_engine::rows: a higher number leaves the held promises (rule 7.2)
+s/^        drop_held(row);/        row.guard_held = None;/

@@ -1,2 +1,2 @@
-# peer_rows::clearing: a higher number leaves the sent promises (rule 7.2)
-s/\*row = \(.*\);/*row = Peer { promise_sent: row.promise_sent, ..\1 };/
+# flat_engine::rows: a higher number leaves the sent promises (rule 7.2)
+s/^        drop_sent(row);/        row.guard_sent = None;/

@@ -1,2 +1,2 @@
-# engine::clock: quiet time lasts T (rule 8.4)
-s/2 \* \(m\.expire_timeout\)/\1/
+# flat_engine::clock: quiet time lasts T (rule 8.4)
+s/2 \* \(f\.expire_timeout\)/\1/

@@ -1,2 +1,2 @@
 # peer_rows::each_row: a refresh takes every marked peer, whatever the set (rule 8.5)
-s/named && \(row\.refresh_mark\)/\1/
+s/!row\.refresh_mark || !is_named(self\.set, i)/!row.refresh_mark/

@@ -1,2 +1,2 @@
 # peer_rows::sent: the mark goes with the grant (rule 7.10)
-s/promise_sent: None,/& refresh_mark: false,/
+s/^            row\.promise_sent = None;/& row.refresh_mark = false;/

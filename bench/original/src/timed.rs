@@ -38,15 +38,30 @@ pub struct Step {
 enum Call {
     Notice(LeaseNum, LeaseNotice),
     Move(Duration),
+    Quiet,
+    Refresh(Option<Bitmap>),
+    GrantSet,
     LeaseSet,
+    LeaseCnt,
+}
+
+/// What a call answers by itself, or an action that is taken after it.
+enum Answer {
+    Set(Bitmap),
+    Count(u8),
+    Action(LeaseNum, LeaseAction),
 }
 
 impl Step {
-    /// A notice or `lease_set`; `None` for any other call.
+    /// A notice, a quiet start, a refresh or a question; `None` for any other call.
     pub fn of(card: Card, actions: usize) -> Option<Self> {
-        let [code, number, ..] = card;
+        let [code, number, _, size, first, _] = card;
         let call = match code {
+            9 => Call::Quiet,
+            10 => Call::Refresh(named(size, first)),
+            12 => Call::GrantSet,
             13 => Call::LeaseSet,
+            14 => Call::LeaseCnt,
             _ => Call::Notice(number, notice(card)?),
         };
         Some(Step { call, actions })
@@ -79,30 +94,24 @@ impl Original {
             settle().await;
             let start = Instant::now();
             for step in steps {
-                run(manager, step, |_, action| drop(black_box(action))).await;
+                run(manager, step, |answer| drop(black_box(answer))).await;
             }
             start.elapsed()
         })
     }
 
-    /// Runs the steps; the actions of each.
+    /// Runs the steps; the actions of each, and what it answers itself.
     pub fn answers(&mut self, steps: Vec<Step>) -> Vec<Vec<Line>> {
         let manager = &mut self.manager;
         self.runtime.block_on(async {
             let mut all = vec![];
             for step in steps {
                 let mut lines = vec![];
-                run(manager, step, |num, action| lines.push(line(num, &action))).await;
+                run(manager, step, |answer| lines.push(answer_line(answer))).await;
                 all.push(lines);
             }
             all
         })
-    }
-
-    /// The ids of `lease_set`, id i as 2 to the i.
-    pub fn lease_set(&self) -> u64 {
-        let _inside = self.runtime.enter();
-        number(&self.manager.lease_set())
     }
 }
 
@@ -113,10 +122,14 @@ async fn settle() {
     }
 }
 
-async fn run(manager: &mut LeaseManager, step: Step, mut take: impl FnMut(LeaseNum, LeaseAction)) {
+async fn run(manager: &mut LeaseManager, step: Step, mut take: impl FnMut(Answer)) {
     match step.call {
         Call::Notice(num, notice) => manager.add_notice(num, notice).unwrap(),
-        Call::LeaseSet => drop(black_box(manager.lease_set())),
+        Call::Quiet => manager.assume_unknown_grants().unwrap(),
+        Call::Refresh(peers) => take(Answer::Set(manager.attempt_refresh(peers.as_ref()).unwrap())),
+        Call::GrantSet => take(Answer::Set(manager.grant_set())),
+        Call::LeaseSet => take(Answer::Set(manager.lease_set())),
+        Call::LeaseCnt => take(Answer::Count(manager.lease_cnt())),
         Call::Move(by) => {
             tokio::time::advance(by).await;
             tokio::task::yield_now().await;
@@ -124,7 +137,7 @@ async fn run(manager: &mut LeaseManager, step: Step, mut take: impl FnMut(LeaseN
     }
     for _ in 0..step.actions {
         let (num, action) = manager.get_action().await.unwrap();
-        take(num, action);
+        take(Answer::Action(num, action));
     }
 }
 
@@ -176,13 +189,12 @@ fn timer(peer: u8, tx: mpsc::UnboundedSender<(LeaseNum, LeaseNotice)>) -> Timer 
 
 fn notice([code, _, peer, size, first, second]: Card) -> Option<LeaseNotice> {
     let id = peer as u8;
-    let set = || (size > 0).then(|| set(size as u8, first));
     Some(match code {
         3 => LeaseNotice::NewGrants {
-            peers: set(),
+            peers: named(size, first),
             accept_bar: (peer == 1).then_some(second as usize),
         },
-        4 => LeaseNotice::DoRevoke { peers: set() },
+        4 => LeaseNotice::DoRevoke { peers: named(size, first) },
         5 => LeaseNotice::ClearHeld,
         6 => LeaseNotice::RecvLeaseMsg { peer: id, msg: message(size, first)? },
         7 => LeaseNotice::GrantTimeout { peer: id },
@@ -204,13 +216,22 @@ fn message(kind: u64, first: u64) -> Option<LeaseMsg> {
     })
 }
 
-fn set(size: u8, bits: u64) -> Bitmap {
-    let ids: Vec<u8> = (0..size).filter(|&id| bits >> id & 1 == 1).collect();
-    Bitmap::from((size, ids))
+/// The set of a card, none for size 0.
+fn named(size: u64, bits: u64) -> Option<Bitmap> {
+    let ids: Vec<u8> = (0..size as u8).filter(|&id| bits >> id & 1 == 1).collect();
+    (size > 0).then(|| Bitmap::from((size as u8, ids)))
 }
 
 fn number(set: &Bitmap) -> u64 {
     Vec::<u8>::from(set).into_iter().map(|id| 1 << id).sum()
+}
+
+fn answer_line(answer: Answer) -> Line {
+    match answer {
+        Answer::Set(set) => [32, 0, set.size().into(), number(&set), 0],
+        Answer::Count(count) => [33, 0, 0, count.into(), 0],
+        Answer::Action(num, action) => line(num, &action),
+    }
 }
 
 fn line(num: LeaseNum, action: &LeaseAction) -> Line {

@@ -1,0 +1,2 @@
+-- What the exported call needs.
+pub mod Replay

@@ -1,0 +1,2 @@
+-- What the exported call writes.
+pub mod Replay
