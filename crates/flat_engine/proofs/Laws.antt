@@ -24,7 +24,8 @@ use Rattle.lease.specs.Calls.{quiet_at, clock_of, assume_unknown_grants, advance
 use Rattle.peer_rows.specs.Rules.{advance_pass}
 use Rattle.refusals.specs.Fits.{ManagerFits}
 use Rattle.peer_rows.proofs.ClearingClaims.{done}
-use Rattle.flat_engine.specs.FlatRows.{higher_number_pass, blank_row, FlatFits}
+use Rattle.flat_record.specs.Sound.{blank_row}
+use Rattle.flat_engine.specs.FlatRows.{higher_number_pass, FlatFits}
 use Rattle.lease.proofs.Tests.{snd-of}
 use Rattle.wire.specs.declared.flat.PeerC.{PeerC}
 use Rattle.wire.specs.declared.flat.ManagerC.{ManagerC}

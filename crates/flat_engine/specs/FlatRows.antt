@@ -9,6 +9,7 @@ use Rattle.wire.specs.declared.flat.PeerC.{PeerC}
 use Rattle.wire.specs.declared.flat.ManagerC.{ManagerC}
 use Rattle.wire.specs.Flat.{flat_row, flat_of}
 use Rattle.wire.specs.FromFlat.{peer_of, manager_of}
+use Rattle.flat_record.specs.Sound.{blank_row}
 
 -- The pass that a higher number asks for.
 abbrev pub higher_number_pass : Pass
@@ -17,21 +18,6 @@ higher_number_pass = P.HigherNumber
 -- The flat row of an id after a pass.
 abbrev pub flat_row_after : Pass → ℕ → ℕ → PeerC → PeerC
 flat_row_after pass own i p = flat_row (row_after pass own i (peer_of p))
-
-abbrev pub blank_row : PeerC
-blank_row =
-    record {
-      guard_sent = 0;
-      promise_sent = 0;
-      guard_held = 0;
-      promise_held = 0;
-      revoking = 0;
-      refresh_mark = 0;
-      guard_sent_at = 0;
-      promise_sent_at = 0;
-      guard_held_at = 0;
-      promise_held_at = 0;
-    }
 
 abbrev pub flat_at : List PeerC → ℕ → PeerC
 flat_at rows i = get_or rows i blank_row

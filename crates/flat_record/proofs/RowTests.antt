@@ -20,25 +20,10 @@ use Rattle.wire.specs.declared.flat.PeerC.{PeerC}
 use Rattle.wire.specs.declared.flat.ManagerC.{ManagerC}
 use Rattle.wire.specs.Form.{is_entry, is_flag, is_grant, is_row, is_clock_pair, is_quiet_pair, is_record}
 use Rattle.wire.specs.FromFlat.{peer_of, clock_by_flag, quiet_timer_by_flag, manager_of}
-use Rattle.flat_record.specs.Sound.{reading, sent_blank, held_blank, sent_sound, held_sound, sound_at}
+use Rattle.flat_record.specs.Sound.{reading, blank_row, sent_blank, held_blank, sent_sound, held_sound, sound_at}
 use Rattle.std.specs.Prelude.{Option, None, Some}
 use Rattle.lease.specs.Types.{Timer}
 use Rattle.lease.specs.declared.Peer.{Peer}
-
-abbrev zeros : PeerC
-zeros =
-    record {
-      guard_sent = 0;
-      promise_sent = 0;
-      guard_held = 0;
-      promise_held = 0;
-      revoking = 0;
-      refresh_mark = 0;
-      guard_sent_at = 0;
-      promise_sent_at = 0;
-      guard_held_at = 0;
-      promise_held_at = 0;
-    }
 
 -- ---- tests in another order
 
@@ -162,11 +147,11 @@ rows-below : (f : ManagerC) (rows : List PeerC) (k : ℕ) → k ≤ length rows
 unfolding rows_valid
 rows-below f rows zero h = refl
 rows-below f rows (suc k) h =
-    let more = list_all_more (λ (p : ℕ × PeerC). sound_at f p.0 p.1) (enumerate_from 0 rows) k (0, zeros) (omega (arith, length-enumerate_from 0 rows)) in
-    let forms = list_all_more is_row rows k zeros h in
+    let more = list_all_more (λ (p : ℕ × PeerC). sound_at f p.0 p.1) (enumerate_from 0 rows) k (0, blank_row) (omega (arith, length-enumerate_from 0 rows)) in
+    let forms = list_all_more is_row rows k blank_row h in
     let same : 0 + k ≡ k = omega arith in
-    let at : peer_of (get_or rows k zeros) ≡ row_at (map peer_of rows) k = sym (get_or-map peer_of rows k zeros empty_row h) in
-    simp (← add-one, more, forms, rows-below f rows k (omega arith), get_or-enumerate_from 0 rows k (0, zeros) h, same, at) (swapped (list_all is_row (take k rows)) (rows_valid f.me f.population (reading f.now) (map peer_of rows) k) (is_row (get_or rows k zeros)) (row_valid_at f.me f.population (reading f.now) k (row_at (map peer_of rows) k)))
+    let at : peer_of (get_or rows k blank_row) ≡ row_at (map peer_of rows) k = sym (get_or-map peer_of rows k blank_row empty_row h) in
+    simp (← add-one, more, forms, rows-below f rows k (omega arith), get_or-enumerate_from 0 rows k (0, blank_row) h, same, at) (swapped (list_all is_row (take k rows)) (rows_valid f.me f.population (reading f.now) (map peer_of rows) k) (is_row (get_or rows k blank_row)) (row_valid_at f.me f.population (reading f.now) k (row_at (map peer_of rows) k)))
 
 -- of all
 pub all-rows : (f : ManagerC) → length f.peers ≡ capacity

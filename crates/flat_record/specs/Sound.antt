@@ -11,6 +11,22 @@ use Rattle.wire.specs.FromFlat.{entry_by_tag, grant_by_tag, peer_of}
 abbrev pub reading : ℕ → Reading
 reading now = record { 0 = now }
 
+-- The row whose ten numbers are all 0.
+abbrev pub blank_row : PeerC
+blank_row =
+    record {
+      guard_sent = 0;
+      promise_sent = 0;
+      guard_held = 0;
+      promise_held = 0;
+      revoking = 0;
+      refresh_mark = 0;
+      guard_sent_at = 0;
+      promise_sent_at = 0;
+      guard_held_at = 0;
+      promise_held_at = 0;
+    }
+
 -- The sent tables of a row are of the form, and the row is in none of them; and so the held ones.
 abbrev pub sent_blank : PeerC → Bool
 sent_blank p =

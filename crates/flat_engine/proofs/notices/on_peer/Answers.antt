@@ -5,7 +5,8 @@ use Rattle.lease.specs.Notices.{handled_at, on_peer}
 use Rattle.lease.specs.Rows.{row_at, empty_row}
 use Rattle.wire.specs.Flat.{flat_row}
 use Rattle.wire.specs.FromFlat.{peer_of, manager_of}
-use Rattle.flat_engine.specs.FlatRows.{flat_at, blank_row}
+use Rattle.flat_record.specs.Sound.{blank_row}
+use Rattle.flat_engine.specs.FlatRows.{flat_at}
 use Rattle.flat_engine.proofs.Laws.{row_put}
 use Rattle.flat_engine.proofs.notices.on_peer.Goals as goal
 

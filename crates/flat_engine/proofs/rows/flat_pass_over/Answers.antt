@@ -17,7 +17,8 @@ use Rattle.lease.specs.Passes.{visit_of, pass_over, row_after}
 use Rattle.lease.proofs.Tables.{below_more}
 use Rattle.wire.specs.declared.flat.PeerC.{PeerC}
 use Rattle.wire.specs.FromFlat.{peer_of}
-use Rattle.flat_engine.specs.FlatRows.{flat_row_after, flat_at, blank_row}
+use Rattle.flat_record.specs.Sound.{blank_row}
+use Rattle.flat_engine.specs.FlatRows.{flat_row_after, flat_at}
 use Rattle.flat_engine.proofs.Laws.{flat-below}
 use Rattle.flat_engine.proofs.rows.flat_pass_over.Invariants.{rows_in}
 use Rattle.flat_engine.proofs.rows.flat_pass_over.Goals as goal

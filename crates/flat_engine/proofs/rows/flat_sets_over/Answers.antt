@@ -11,7 +11,8 @@ use Rattle.lease.specs.declared.Peer.{Peer}
 use Rattle.lease.specs.Rows.{row_at, empty_row}
 use Rattle.lease.specs.Passes.{visit_of, pass_over}
 use Rattle.wire.specs.FromFlat.{peer_of}
-use Rattle.flat_engine.specs.FlatRows.{flat_at, blank_row}
+use Rattle.flat_record.specs.Sound.{blank_row}
+use Rattle.flat_engine.specs.FlatRows.{flat_at}
 use Rattle.flat_engine.proofs.rows.flat_sets_over.Goals as goal
 
 -- a set of ids below n with the id n, or without it, has ids below n + 1

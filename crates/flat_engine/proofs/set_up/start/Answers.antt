@@ -2,7 +2,7 @@
 use Rattle.std.proofs.Common.{rules, ◌≡◌, ◌∙◌, ap, length}
 use Rattle.std.specs.Prelude.{ℕ, replicate}
 use Rattle.lease.specs.Bitmaps.{capacity}
-use Rattle.flat_engine.specs.FlatRows.{blank_row}
+use Rattle.flat_record.specs.Sound.{blank_row}
 use Rattle.flat_engine.proofs.Laws.{fresh_put}
 use Rattle.flat_engine.proofs.set_up.start.Goals as goal
 
