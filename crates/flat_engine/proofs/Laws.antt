@@ -6,7 +6,8 @@ use mathlib.Core.Bool.{true, ◌&&◌}
 use mathlib.Core.List.{List, [], ◌∷◌}
 use Prim.Native.Nat.{ℕ, zero, suc, ◌+◌, ◌<◌}
 use borrow.Author.Tests.{lt-ltb}
-use lib.ListN.{set}
+use lib.ListN.{length, set}
+use Rattle.std.proofs.lemmas.List.{get_or-map, length-map}
 use Rattle.lease.specs.declared.Peer.{Peer}
 use Rattle.lease.specs.declared.Manager.{Manager}
 use Rattle.lease.specs.Tables.{below}
@@ -16,7 +17,7 @@ use Rattle.lease.specs.Pass.{Pass}
 use Rattle.lease.specs.Passes.{higher_number_row, pass_over}
 use Rattle.lease.specs.Notices.{with_peers, pass_on, raised_to, accepted_of}
 use Rattle.lease.specs.Bitmaps.{capacity}
-use Rattle.lease.specs.Rows.{empty_row}
+use Rattle.lease.specs.Rows.{empty_row, row_at}
 use Rattle.lease.specs.SetUp.{fresh}
 use Rattle.lease.specs.Types.{Reading}
 use Rattle.lease.specs.Timers.{drifted}
@@ -25,7 +26,7 @@ use Rattle.peer_rows.specs.Rules.{advance_pass}
 use Rattle.refusals.specs.Fits.{ManagerFits}
 use Rattle.peer_rows.proofs.ClearingClaims.{done}
 use Rattle.flat_record.specs.Sound.{blank_row}
-use Rattle.flat_engine.specs.FlatRows.{higher_number_pass, FlatFits}
+use Rattle.flat_engine.specs.FlatRows.{higher_number_pass, flat_at, FlatFits}
 use Rattle.lease.proofs.Tests.{snd-of}
 use Rattle.wire.specs.declared.flat.PeerC.{PeerC}
 use Rattle.wire.specs.declared.flat.ManagerC.{ManagerC}
@@ -44,6 +45,16 @@ flat-below zero g rows h = sym (rows-there rows h)
 flat-below (suc n) g [] h = refl
 flat-below (suc n) g (p ∷ rows) h = ap (λ (l : List PeerC). flat_row (g 0 (peer_of p)) ∷ l) (flat-below n (λ i. g (suc i)) rows (snd-of (is_row p) (list_all is_row rows) h))
 
+-- the row that a flat row stands for, and its flat row
+pub stands : (rows : List PeerC) (i : ℕ) → i < length rows → peer_of (flat_at rows i) ≡ row_at (map peer_of rows) i
+stands rows i h = sym (get_or-map peer_of rows i blank_row empty_row h)
+
+pub there_at : (rows : List PeerC) (i : ℕ) → i < length rows → list_all is_row rows ≡ true → flat_row (peer_of (flat_at rows i)) ≡ flat_at rows i
+there_at rows i h form =
+    ap flat_row (stands rows i h)
+    ∙ sym (get_or-map flat_row (map peer_of rows) i empty_row blank_row (rw length-map h))
+    ∙ ap (λ (l : List PeerC). flat_at l i) (rows-there rows form)
+
 map_set : {A B : Type 0} (h : A → B) (l : List A) (i : ℕ) (x : A) → map h (set l i x) ≡ set (map h l) i (h x)
 map_set h [] i x = refl
 map_set h (y ∷ l) zero x = refl
@@ -57,21 +68,41 @@ unfolding is_record
 rows_form f e =
     snd-of (is_clock_pair f.drifting f.quotient && is_quiet_pair f.quiet f.quiet_until) (list_all is_row f.peers) (subst (λ (g : ManagerC). is_record g ≡ true) e (flat-is-record (manager_of f)))
 
--- the flat record with other rows
-abbrev pub with_rows : ManagerC → List PeerC → ManagerC
-with_rows f rows =
+-- the flat record with other fields
+abbrev pub with_fields : ManagerC → ℕ → ℕ → Float → ℕ → ℕ → ℕ → List PeerC → ManagerC
+with_fields f now num quotient until drifting quiet rows =
     record {
       me = f.me;
       population = f.population;
       expire_timeout = f.expire_timeout;
-      now = f.now;
-      active_num = f.active_num;
-      quotient = f.quotient;
-      quiet_until = f.quiet_until;
-      drifting = f.drifting;
-      quiet = f.quiet;
+      now = now;
+      active_num = num;
+      quotient = quotient;
+      quiet_until = until;
+      drifting = drifting;
+      quiet = quiet;
       peers = rows;
     }
+
+-- with other rows
+abbrev pub with_rows : ManagerC → List PeerC → ManagerC
+with_rows f rows = with_fields f f.now f.active_num f.quotient f.quiet_until f.drifting f.quiet rows
+
+-- another number and other rows
+abbrev pub with_num_rows : ManagerC → ℕ → List PeerC → ManagerC
+with_num_rows f num rows = with_fields f f.now num f.quotient f.quiet_until f.drifting f.quiet rows
+
+-- another end of quiet time
+abbrev pub with_quiet : ManagerC → ℕ → ℕ → ManagerC
+with_quiet f quiet at = with_fields f f.now f.active_num f.quotient at f.drifting quiet f.peers
+
+-- another clock
+abbrev pub with_clock : ManagerC → ℕ → Float → ManagerC
+with_clock f drifting quotient = with_fields f f.now f.active_num quotient f.quiet_until drifting f.quiet f.peers
+
+-- another reading, end of quiet time and rows
+abbrev pub with_reading : ManagerC → ℕ → ℕ → ℕ → List PeerC → ManagerC
+with_reading f now quiet at rows = with_fields f now f.active_num f.quotient at f.drifting quiet rows
 
 pub rows_put : (f : ManagerC) → flat_of (manager_of f) ≡ f → (peers : List Peer)
     → with_rows f (map flat_row peers) ≡ flat_of (with_peers (manager_of f) peers)
@@ -92,22 +123,6 @@ row_put f e i p =
     ap (λ (l : List PeerC). with_rows f l) (sym rows) ∙ rows_put f e (set (map peer_of f.peers) i p)
 
 -- ---- a higher number
-
--- the flat record with another number and other rows
-abbrev pub with_num_rows : ManagerC → ℕ → List PeerC → ManagerC
-with_num_rows f num rows =
-    record {
-      me = f.me;
-      population = f.population;
-      expire_timeout = f.expire_timeout;
-      now = f.now;
-      active_num = num;
-      quotient = f.quotient;
-      quiet_until = f.quiet_until;
-      drifting = f.drifting;
-      quiet = f.quiet;
-      peers = rows;
-    }
 
 pub raise_put : (f : ManagerC) → FlatFits f → (num : LeaseNum) (rows : List PeerC)
     → rows ≡ map flat_row (pass_over higher_number_pass f.me f.population (map peer_of f.peers)).peers → with_num_rows f num.0 rows ≡ flat_of (raised_to (manager_of f) num)
@@ -138,62 +153,14 @@ lower_stays f num notice k h = rw (lt-ltb num.0 f.active_num h) (sym k.same)
 
 -- ---- time
 
--- the flat record with another end of quiet time
-abbrev pub with_quiet : ManagerC → ℕ → ℕ → ManagerC
-with_quiet f quiet at =
-    record {
-      me = f.me;
-      population = f.population;
-      expire_timeout = f.expire_timeout;
-      now = f.now;
-      active_num = f.active_num;
-      quotient = f.quotient;
-      quiet_until = at;
-      drifting = f.drifting;
-      quiet = quiet;
-      peers = f.peers;
-    }
-
 pub quiet_put : (f : ManagerC) → FlatFits f → (at : ℕ) → at ≡ f.now + drifted (clock_by_flag f.drifting f.quotient) (2 * f.expire_timeout)
     → with_quiet f 1 at ≡ flat_of (assume_unknown_grants (manager_of f))
 unfolding flat_of manager_of assume_unknown_grants
 quiet_put f k at e = ap (λ (a : ℕ). with_quiet f 1 a) e ∙ ap (λ (g : ManagerC). with_quiet g 1 (f.now + drifted (clock_by_flag f.drifting f.quotient) (2 * f.expire_timeout))) (sym k.same)
 
--- with another clock
-abbrev pub with_clock : ManagerC → ℕ → Float → ManagerC
-with_clock f drifting quotient =
-    record {
-      me = f.me;
-      population = f.population;
-      expire_timeout = f.expire_timeout;
-      now = f.now;
-      active_num = f.active_num;
-      quotient = quotient;
-      quiet_until = f.quiet_until;
-      drifting = drifting;
-      quiet = f.quiet;
-      peers = f.peers;
-    }
-
 pub clock_put : (f : ManagerC) → FlatFits f → (setting : Option ℤ) → with_clock f (clock_drifting (clock_of setting)) (clock_quotient (clock_of setting)) ≡ flat_of (set_drift (manager_of f) setting)
 unfolding flat_of manager_of set_drift
 clock_put f k setting = ap (λ (g : ManagerC). with_clock g (clock_drifting (clock_of setting)) (clock_quotient (clock_of setting))) (sym k.same)
-
--- with another reading, end of quiet time and rows
-abbrev pub with_reading : ManagerC → ℕ → ℕ → ℕ → List PeerC → ManagerC
-with_reading f now quiet at rows =
-    record {
-      me = f.me;
-      population = f.population;
-      expire_timeout = f.expire_timeout;
-      now = now;
-      active_num = f.active_num;
-      quotient = f.quotient;
-      quiet_until = at;
-      drifting = f.drifting;
-      quiet = quiet;
-      peers = rows;
-    }
 
 pub advance_put : (f : ManagerC) → FlatFits f → (to : Reading) (rows : List PeerC)
     → rows ≡ map flat_row (pass_over (advance_pass to) f.me f.population (map peer_of f.peers)).peers

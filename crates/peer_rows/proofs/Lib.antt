@@ -5,4 +5,7 @@ pub mod Place
 pub mod Put
 pub mod Sorting
 pub mod Sides
+pub mod Either
+pub mod Turn
 pub mod NoneDue
+pub mod NotBefore

@@ -1,12 +1,21 @@
--- Where no timer is due, an advance leaves the rows. Assumes nothing.
+-- Rows that have no timer that is due stay as they are. Assumes nothing.
 use Rattle.std.specs.Prelude.{Option, None, Some}
 use Prim.Native.Nat.{ℕ, zero, suc, ◌<◌}
 use mathlib.Core.Path.{◌≡◌, refl, ap}
-use mathlib.Core.Bool.{Bool, true, false, cond, ◌||◌}
+use mathlib.Core.Bool.{Bool, true, false, cond, ◌||◌, true≢false}
 use mathlib.Core.List.{List, [], ◌∷◌}
 use native.Mathlib.Omega.{arith}
 use lib.Dec.{eqb, leb}
-use Rattle.bitmap.proofs.SetsLemmas.{count_where-none, empty-count}
+use mathlib.Core.Path.{sym, ◌∙◌}
+use borrow.Author.Tests.{lt-ltb}
+use Rattle.std.specs.Int.Bits.{bit_or}
+use Rattle.bitmap.proofs.SetsLemmas.{member_below}
+use Rattle.lease.specs.Sets.{member, ids_where}
+use Rattle.lease.specs.Bitmaps.{is_one}
+use Rattle.lease.specs.Types.{Bitmap}
+use Rattle.peer_rows.specs.declared.pass.Marks.{Marks}
+use Rattle.peer_rows.specs.Marks.{marks_of, either}
+use Rattle.peer_rows.proofs.Either.{none_in, member_or}
 use Rattle.lease.specs.Types.{Reading, Timer, Unarmed, Armed, Exploded}
 use Rattle.lease.specs.Timers.{expired_at}
 use Rattle.timer.specs.declared.Expired.{Expired}
@@ -15,7 +24,7 @@ use Rattle.lease.specs.declared.Visit.{Visit}
 use Rattle.lease.specs.Tables.{below}
 use Rattle.lease.specs.Rows.{row_at}
 use Rattle.lease.specs.Pass as P
-use Rattle.lease.specs.Passes.{fires_entry, fires_grant, expired_entry, expired_grant, advance_row, visit_of, row_after, is_first, is_second, pass_over}
+use Rattle.lease.specs.Passes.{fires_entry, fires_grant, expired_entry, expired_grant, in_none, advance_row, visit_of, row_after, is_first, is_second, pass_over}
 
 timer_still : (to : Reading) (t : Timer) → (expired_at to t).fired ≡ false → (expired_at to t).timer ≡ t
 timer_still to Unarmed e = refl
@@ -44,22 +53,55 @@ row_still to row e f =
     let h = neither (fires_entry to row.guard_held) (fires_entry to row.promise_held) f in
     rw (entry_still to row.guard_sent s.0, grant_still to row.promise_sent s.1, entry_still to row.guard_held h.0, entry_still to row.promise_held h.1) refl
 
-visit_still : (to : Reading) (own i : ℕ) (row : Peer) → (visit_of (P.Advance to) own i row).first ≡ false → (visit_of (P.Advance to) own i row).second ≡ false → (visit_of (P.Advance to) own i row).peer ≡ row
+pub visit_still : (to : Reading) (own i : ℕ) (row : Peer) → (visit_of (P.Advance to) own i row).first ≡ false → (visit_of (P.Advance to) own i row).second ≡ false → (visit_of (P.Advance to) own i row).peer ≡ row
 visit_still to own i row e f = go (eqb i own) e f
   where
     go : (b : Bool) → (cond {A = Visit} b (record { peer = row; first = false; second = false }) (advance_row to row)).first ≡ false → (cond {A = Visit} b (record { peer = row; first = false; second = false }) (advance_row to row)).second ≡ false → (cond {A = Visit} b (record { peer = row; first = false; second = false }) (advance_row to row)).peer ≡ row
     go true e f = refl
     go false e f = row_still to row e f
 
-below_still : (n : ℕ) (f : ℕ → Peer → Peer) (rows : List Peer) → ((i : ℕ) → i < n → f i (row_at rows i) ≡ row_at rows i) → below n f rows ≡ rows
+pub below_still : (n : ℕ) (f : ℕ → Peer → Peer) (rows : List Peer) → ((i : ℕ) → i < n → f i (row_at rows i) ≡ row_at rows i) → below n f rows ≡ rows
 unfolding below
 below_still zero f rows e = refl
 below_still (suc n) f [] e = refl
 below_still (suc n) f (x ∷ t) e = rw (e 0 (omega arith), below_still n (λ i. f (suc i)) t (λ i l. e (suc i) (omega (arith, l)))) refl
 
-pub none_due : (to : Reading) (own n : ℕ) (rows : List Peer) → (pass_over (P.Advance to) own n rows).first.bits ≡ 0 → (pass_over (P.Advance to) own n rows).second.bits ≡ 0 → (pass_over (P.Advance to) own n rows).peers ≡ rows
-unfolding pass_over
-none_due to own n rows e f =
-    let first = count_where-none (is_first (P.Advance to) own rows) n (empty-count (is_first (P.Advance to) own rows) n e) in
-    let second = count_where-none (is_second (P.Advance to) own rows) n (empty-count (is_second (P.Advance to) own rows) n f) in
-    below_still n (row_after (P.Advance to) own) rows (λ i l. visit_still to own i (row_at rows i) (first i l) (second i l))
+module _ (to : Reading) (own n : ℕ) (rows : List Peer) (due : Marks) (sets : due ≡ marks_of (pass_over (P.Advance to) own n rows)) (ids : Bitmap) (both : ids ≡ either due) where
+  abbrev p : ℕ → Bool
+  p = is_first (P.Advance to) own rows
+
+  abbrev q : ℕ → Bool
+  q = is_second (P.Advance to) own rows
+
+  -- who is in one of the sets
+  in_either : (i : ℕ) → i < n → is_one ids i ≡ member (bit_or (ids_where p n) (ids_where q n)) i
+  unfolding pass_over
+  in_either i h = ap (λ (b : Bitmap). is_one b i) (both ∙ ap either sets) ∙ rw (lt-ltb i n h) refl
+
+  -- the row of an id in neither set
+  pub undue : (i : ℕ) → i < n → is_one ids i ≡ false → row_after (P.Advance to) own i (row_at rows i) ≡ row_at rows i
+  undue i h e =
+      let s = neither (member (ids_where p n) i) (member (ids_where q n) i) (sym (in_either i h ∙ member_or (ids_where p n) (ids_where q n) i) ∙ e) in
+      visit_still to own i (row_at rows i) (sym (member_below p n i h) ∙ s.0) (sym (member_below q n i h) ∙ s.1)
+
+  -- the own id is in neither
+  due_other : (i : ℕ) → i < n → is_one ids i ≡ true → eqb i own ≡ false
+  due_other i h e = go (eqb i own) refl
+    where
+      go : (b : Bool) → eqb i own ≡ b → b ≡ false
+      go true o =
+          let first : p i ≡ false = ap (λ (b : Bool). (cond {A = Visit} b (in_none (row_at rows i)) (advance_row to (row_at rows i))).first) o in
+          let second : q i ≡ false = ap (λ (b : Bool). (cond {A = Visit} b (in_none (row_at rows i)) (advance_row to (row_at rows i))).second) o in
+          let x : member (ids_where p n) i ≡ false = member_below p n i h ∙ first in
+          let y : member (ids_where q n) i ≡ false = member_below q n i h ∙ second in
+          absurd (true≢false (sym e ∙ in_either i h ∙ member_or (ids_where p n) (ids_where q n) i ∙ rw (x, y) refl))
+      go false o = refl
+
+  -- the row of an id in one of them
+  pub at_due : (i : ℕ) → i < n → is_one ids i ≡ true → (row : Peer) → row_after (P.Advance to) own i row ≡ (advance_row to row).peer
+  at_due i h e row = ap (λ (b : Bool). (cond {A = Visit} b (in_none row) (advance_row to row)).peer) (due_other i h e)
+
+  -- where no id is in either
+  pub none_due : ids.bits ≡ 0 → (pass_over (P.Advance to) own n rows).peers ≡ rows
+  unfolding pass_over
+  none_due e = below_still n (row_after (P.Advance to) own) rows (λ i h. undue i h (none_in ids i e))

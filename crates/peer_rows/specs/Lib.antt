@@ -6,3 +6,4 @@ pub mod ClearingClaims
 pub mod ClearingExamples
 pub mod Deadlines
 pub mod Lists
+pub mod Due

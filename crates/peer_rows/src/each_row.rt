@@ -5,7 +5,7 @@
 ghost use Rattle.std.specs.Prelude.{◌≡◌, false};
 ghost use Rattle.lease.specs.declared.Peer.{Peer};
 ghost use Rattle.lease.specs.Pass.{Pass};
-ghost use Rattle.lease.specs.Passes.{named, pass_row, expired_entry, fires_entry, expired_grant, fires_grant};
+ghost use Rattle.lease.specs.Passes.{named, pass_row, fires_entry};
 ghost use Rattle.peer_rows.specs.Fits.{AnyRow, Refreshable};
 ghost use Rattle.peer_rows.specs.Rules.{new_grants_pass, do_revoke_pass, clear_held_pass, advance_pass, refresh_pass, granted_pass, everyone_pass, leased_pass};
 
@@ -121,56 +121,6 @@ impl Rule for ClearHeld {
     fn visit(&self, i: usize, row: &mut Peer) -> InSets {
         drop_held(row);
         InSets::NONE
-    }
-}
-
-/// Advance (rules 8.1, 8.2): each armed timer with deadline at or below the reading explodes once.
-/// The first set is of sent timers, the second of held ones.
-#[derive(Clone, Copy)]
-pub struct Advance {
-    pub to: Reading,
-}
-
-// Explodes the entry's timer once its deadline is reached (rule 4.5), and says whether it fired.
-fn expire_entry(to: Reading, entry: &mut Option<Timer>) -> bool
-    ensures fired { result ≡ fires_entry to entry.old }
-    ensures entry_after { entry.new ≡ expired_entry to entry.old }
-{
-    let fires = is_due(to, *entry);
-    if fires {
-        *entry = Some(Timer::Exploded);
-    }
-    fires
-}
-
-// The same of a sent promise; whether it is being revoked stays.
-fn expire_grant(to: Reading, grant: &mut Option<(Timer, bool)>) -> bool
-    ensures fired { result ≡ fires_grant to grant.old }
-    ensures grant_after { grant.new ≡ expired_grant to grant.old }
-{
-    if let Some((timer, revoking)) = *grant {
-        if is_due(to, Some(timer)) {
-            *grant = Some((Timer::Exploded, revoking));
-            return true;
-        }
-    }
-    false
-}
-
-impl Rule for Advance {
-    ghost pass = { λ r. advance_pass r.to };
-
-    ghost fits = { λ r. AnyRow };
-
-    fn visit(&self, i: usize, row: &mut Peer) -> InSets {
-        let guard_sent = expire_entry(self.to, &mut row.guard_sent);
-        let promise_sent = expire_grant(self.to, &mut row.promise_sent);
-        let guard_held = expire_entry(self.to, &mut row.guard_held);
-        let promise_held = expire_entry(self.to, &mut row.promise_held);
-        InSets {
-            first: guard_sent || promise_sent,
-            second: guard_held || promise_held,
-        }
     }
 }
 

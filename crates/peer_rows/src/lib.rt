@@ -4,8 +4,10 @@
 
 pub mod clearing;
 pub mod deadlines;
+pub mod due;
 pub mod each_row;
 pub mod entries;
+pub mod exploding;
 pub mod firing;
 pub mod handlers;
 pub mod held;

@@ -5,7 +5,7 @@ ghost use Rattle.std.specs.Prelude.{◌≡◌, ◌≤◌, ◌<◌, ℕ};
 ghost use Rattle.lease.specs.Bitmaps.{capacity};
 ghost use Rattle.lease.specs.Passes.{pass_over, visit_of};
 ghost use Rattle.lease.specs.Rows.{row_at};
-ghost use Rattle.peer_rows.specs.Marks.{marks_of};
+ghost use Rattle.peer_rows.specs.Marks.{marks_of, either};
 
 use crate::each_row::{InSets, Look, Rule};
 use bitmap::{none, with_id};
@@ -14,13 +14,25 @@ use lease::{Bitmap, Peer, ROWS, ReplicaId};
 /// What a pass answers beside the rows.
 #[derive(Clone, Copy)]
 pub struct Marks {
-    /// Of advance: the peers whose sent timers fired. Of the other passes: the peers that were
-    /// taken.
+    /// Of a look for what is due: the peers whose sent timers are. Of the other passes: the peers
+    /// that were taken.
     pub first: Bitmap,
-    /// Of advance: the peers whose held timers fired. Of the other passes: empty.
+    /// Of a look for what is due: the peers whose held timers are. Of the other passes: empty.
     pub second: Bitmap,
     /// How many ids the first set has.
     pub count: u64,
+}
+
+impl Marks {
+    /// The ids of either set.
+    pub fn either(&self) -> Bitmap
+        ensures { result ≡ either self.now }
+    {
+        Bitmap {
+            bits: self.first.bits | self.second.bits,
+            ..self.first
+        }
+    }
 }
 
 /// The rule at the id `i`: the own id's row stays.
