@@ -1,7 +1,7 @@
 -- A refused card is counted, and changes nothing else: 21, 22 and 23 by their definition, a call's refusals by the outcome of the rule's
 -- answer. And the number that a card is refused with. Assumes nothing.
 use Rattle.std.specs.Prelude.{Option, None, Some, Result, Ok, Err}
-use Prim.Native.Nat.{ℕ}
+use Prim.Native.Nat.{ℕ, ◌<◌}
 use mathlib.Core.Path.{◌≡◌, refl}
 use mathlib.Core.Bool.{Bool, true, false, cond}
 use mathlib.Core.List.{List}
@@ -26,7 +26,16 @@ use Rattle.wire.specs.declared.events.CardRefusal.TheVariants as C
 use Rattle.card_stream.specs.declared.session.Session.{Session}
 use Rattle.card_stream.specs.declared.session.CardAnswer.{CardAnswer}
 use Rattle.card_stream.specs.Sessions.{counted, given_by, refused_card, set_up_result, set_up_event, advance_result, advance_event, notice_result, notice_event, event_given, card_given, call_number, event_number, numbers_number, card_number}
+use Rattle.card_stream.specs.Sessions.{RecordNotBefore}
 use Rattle.card_stream.specs.Claims.{RefusedCardKeeps}
+use lib.ListN.{get_or-replicate}
+use Rattle.lease.specs.Bitmaps.{capacity}
+use Rattle.lease.specs.Rows.{empty_row}
+use native.Mathlib.Omega.{arith}
+use Rattle.refusals.proofs.Laws.{fits}
+use Rattle.peer_rows.specs.Due.{RowsNotBefore}
+use Rattle.peer_rows.proofs.NotBefore.{rows_zero, empty_never}
+use Rattle.engine.specs.Due.{NotBefore}
 
 -- An answer that, if it refuses, leaves the session as it was.
 abbrev Keeps : Session → CardAnswer → Type 0
@@ -126,3 +135,15 @@ number-by s read line o e f = rw (e, f) (card-number s line)
 pub fresh_valid : (me n t hb : ℕ) (now : Reading) → setup_refusal me n t hb now ≡ Ok tt → record_valid (fresh me n t now) ≡ true
 unfolding setup_of
 fresh_valid me n t hb now e = rw e at (reachable-valid (setup_of me n t hb now).manager (reached-set-up me n t hb now (rw e refl)))
+
+-- No timer is due below 0, nor in the record that a set-up starts with.
+pub none_at_zero : (m : Option Manager) → RecordNotBefore 0 m
+none_at_zero None = tt
+none_at_zero (Some m) = rows_zero m.population m.peers
+
+pub fresh_not_due : (b me n t : ℕ) (now : Reading) → record_valid (fresh me n t now) ≡ true → NotBefore b (fresh me n t now)
+unfolding fresh RowsNotBefore
+fresh_not_due b me n t now v i l =
+    let few = (fits (fresh me n t now) v).few in
+    let room : i < capacity = omega (arith, l, few) in
+    rw (get_or-replicate capacity i empty_row empty_row room) (empty_never b)

@@ -1,11 +1,13 @@
 -- What a card does (rules 14.3, 14.5): refused with 21 or 22 as its line was read, then with 23, then as the call that it says; else what
 -- the rules give, on the record that the cards before it left. Definitions only.
-use Rattle.std.specs.Prelude.{ℕ, ◌+◌, Bool, true, cond, ltb, List, Option, None, Some, Result, Ok, Err}
+use Rattle.std.specs.Prelude.{ℕ, ◌+◌, ◌≡◌, Bool, true, cond, ltb, List, [], Option, None, Some, Result, Ok, Err}
 use Rattle.card_text.specs.Columns.{max_number}
 use Rattle.lease.specs.declared.Refusal.{Refusal}
 use Rattle.lease.specs.Refusals.{refusal_number}
 use Rattle.lease.specs.declared.Lines.{Lines}
 use Rattle.lease.specs.declared.Advanced.{Advanced}
+use Rattle.lease.specs.declared.Line.{Line}
+use Rattle.lease.specs.Fired.{fired_array}
 use Rattle.lease.specs.Types.{Reading}
 use Rattle.lease.specs.declared.LeaseNum.{LeaseNum}
 use Rattle.lease.specs.declared.LeaseNotice.{LeaseNotice}
@@ -23,7 +25,11 @@ use Rattle.wire.specs.declared.events.CardRefusal.{CardRefusal}
 use Rattle.wire.specs.declared.events.CardRefusal.TheVariants as C
 use Rattle.wire.specs.declared.events.CardGiven.{CardGiven}
 use Rattle.wire.specs.declared.events.CardGiven.TheVariants as G
+use Rattle.engine.specs.Due.{NotBefore}
+use Rattle.engine.specs.declared.notices.Turn.{Turn}
+use Rattle.engine.specs.Turns.{turn_lines}
 use Rattle.card_stream.specs.declared.session.Session.{Session}
+use Rattle.card_stream.specs.declared.session.Known.{Known}
 use Rattle.card_stream.specs.declared.session.CardAnswer.{CardAnswer}
 
 -- ---- the state from card to card
@@ -39,6 +45,15 @@ record_sound (Some m) = record_valid m
 
 abbrev pub sound : Session → Bool
 sound s = record_sound s.manager
+
+-- None of the timers of the record, if there is one, is due at a reading below b.
+abbrev pub RecordNotBefore : ℕ → Option Manager → Type 0
+RecordNotBefore b None = Unit
+RecordNotBefore b (Some m) = NotBefore b m
+
+-- What is known of a session holds of it.
+abbrev pub Knows : Known → Session → Type 0
+Knows known s = (known.is_sound ≡ sound s) × RecordNotBefore known.due s.manager
 
 -- Cards are counted from 1; the count stops at the largest number that a line can print.
 abbrev pub count_next : ℕ → ℕ
@@ -71,9 +86,14 @@ abbrev pub fired : Result (LeaseNum × Advanced) CardRefusal → Result CardGive
 fired (Err k) = Err k
 fired (Ok (num, a)) = Ok (G.Fired num a.fired a.quiet_end)
 
-abbrev pub acted : Result Lines CardRefusal → Result CardGiven CardRefusal
-acted (Err k) = Err k
-acted (Ok lines) = Ok (G.Acted lines)
+-- No timer.
+abbrev pub nothing_given : LeaseNum × Option Line → Result CardGiven CardRefusal
+nothing_given (num, line) = Ok (G.Fired num (fired_array []) line)
+
+-- A notice's actions are lines under its number.
+abbrev pub acted : LeaseNum → Turn → Result (Unit {0}) CardRefusal → Result CardGiven CardRefusal
+acted num turn (Err k) = Err k
+acted num turn (Ok tt) = Ok (G.Acted (turn_lines num turn))
 
 -- ---- what an event gives, by the rules
 

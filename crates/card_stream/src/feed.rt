@@ -4,12 +4,12 @@ ghost use Rattle.std.specs.Prelude.{ℕ, List, ◌++◌, ◌+◌, ◌-◌, ◌�
 ghost use Rattle.std.proofs.lemmas.List.Edits.{sets};
 ghost use Rattle.card_text.specs.Lines.{laid, line_bytes, most_bytes};
 ghost use Rattle.card_stream.specs.Reader.{blank_reader, line_given, ended, chunk_next, end_next, HasRead};
-ghost use Rattle.card_stream.specs.Sessions.{sound};
+ghost use Rattle.card_stream.specs.Sessions.{Knows};
 ghost use Rattle.card_stream.specs.Feed.{replay_text, given_text, feed_text, last_text, bytes_taken, last_bytes, CardStands, Fed};
 
 use crate::printed::{put_card, put_refused_card};
 use crate::reader::{CardReader, NEWLINE};
-use crate::session::is_sound;
+use crate::session::{Known, known_of};
 use card_text::card::{CARD, COLUMNS, event_in};
 use card_text::line::{LINE, MOST};
 use wire::calls::CallC;
@@ -22,34 +22,34 @@ pub struct Progress {
     pub written: usize,
 }
 
-// In each of these it is known whether the session is sound (`is_sound`), and it stays so.
+// In each of these `known` is what is known of the session, before and after.
 
 // The end of a line, and the lines of its card: answers how many bytes they are. Out of line, since most cards stand whole in the input.
 #[inline(never)]
 #[tactic(auto, unfolding(crate::specs::Reader::ended_by, crate::specs::Reader::line_given))]
-fn feed_newline(reader: &mut CardReader, is_known_sound: bool, out: &mut [u8]) -> usize
-    requires known { is_known_sound ≡ sound reader.old.session }
+fn feed_newline(reader: &mut CardReader, known: &mut Known, out: &mut [u8]) -> usize
+    requires known { Knows known.old reader.old.session }
     requires room { most_bytes ≤ length out.old }
     ensures reader_after { reader.new ≡ ended reader.old }
     ensures value { result ≡ length (given_text (line_given reader.old)) }
     ensures out_after { out.new ≡ laid (given_text (line_given reader.old)) out.old }
     ensures upper_bound { result ≤ length out.new }
-    ensures stays { sound reader.new.session ≡ sound reader.old.session }
+    ensures stays { Knows known.new reader.new.session }
 {
     let read = reader.partial.read();
     reader.partial.filled = 0;
-    put_card(&mut reader.session, is_known_sound, read, out)
+    put_card(&mut reader.session, known, read, out)
 }
 
 // The line of the card that stands in front of the input, and the lines that it gives.
 fn feed_line(
     reader: &mut CardReader,
-    is_known_sound: bool,
+    known: &mut Known,
     input: &[u8],
     card: CallC,
     out: &mut [u8],
 ) -> usize
-    requires known { is_known_sound ≡ sound reader.old.session }
+    requires known { Knows known.old reader.old.session }
     requires stands { CardStands reader.old input.now card }
     requires room { most_bytes ≤ length out.old }
     ensures reader_after { reader.new ≡ chunk_next reader.old (take 74 input.now) }
@@ -57,21 +57,16 @@ fn feed_line(
     ensures out_after { out.new ≡ laid (feed_text reader.old (take 74 input.now)) out.old }
     ensures rest { bytes_taken reader.old input.now (length out.old) ≡ 74 + bytes_taken reader.new (drop 74 input.now) (length out.old - result) }
     ensures upper_bound { result ≤ length out.new }
-    ensures stays { sound reader.new.session ≡ sound reader.old.session }
+    ensures stays { Knows known.new reader.new.session }
 {
-    let written = put_card(&mut reader.session, is_known_sound, event_in(card), out);
+    let written = put_card(&mut reader.session, known, event_in(card), out);
     reader.partial.hold(&input[..COLUMNS]);
     written
 }
 
 // The line of a card that stands in front of the input, its bytes before a newline, or the newline; and the lines of the card that they end.
-fn feed_next(
-    reader: &mut CardReader,
-    is_known_sound: bool,
-    input: &[u8],
-    out: &mut [u8],
-) -> Progress
-    requires known { is_known_sound ≡ sound reader.old.session }
+fn feed_next(reader: &mut CardReader, known: &mut Known, input: &[u8], out: &mut [u8]) -> Progress
+    requires known { Knows known.old reader.old.session }
     requires some { 1 ≤ length input.now }
     requires room { most_bytes ≤ length out.old }
     ensures taken { (1 ≤ result.taken) × (result.taken ≤ length input.now) }
@@ -80,12 +75,12 @@ fn feed_next(
     ensures out_after { out.new ≡ laid (feed_text reader.old (take result.taken input.now)) out.old }
     ensures rest { bytes_taken reader.old input.now (length out.old) ≡ result.taken + bytes_taken reader.new (drop result.taken input.now) (length out.old - result.written) }
     ensures upper_bound { result.written ≤ length out.new }
-    ensures stays { sound reader.new.session ≡ sound reader.old.session }
+    ensures stays { Knows known.new reader.new.session }
 {
     if let Some(card) = reader.card_in(input) {
         return Progress {
             taken: CARD,
-            written: feed_line(reader, is_known_sound, input, card, out),
+            written: feed_line(reader, known, input, card, out),
         };
     }
     if input[0] != NEWLINE {
@@ -96,7 +91,7 @@ fn feed_next(
     }
     Progress {
         taken: 1,
-        written: feed_newline(reader, is_known_sound, out),
+        written: feed_newline(reader, known, out),
     }
 }
 
@@ -111,11 +106,11 @@ pub fn feed(reader: &mut CardReader, input: &[u8], out: &mut [u8]) -> Progress
     ensures in_bounds { (result.taken ≤ length input.now) × (result.written ≤ length out.new) }
     ensures goes_on { most_bytes ≤ length out.old → 1 ≤ length input.now → 1 ≤ result.taken }
 {
-    let is_known_sound = is_sound(&reader.session);
+    let mut known = known_of(&reader.session);
     let mut taken = 0;
     let mut written = 0;
     while taken < input.len() && out.len() - written >= MOST {
-        let next = feed_next(reader, is_known_sound, &input[taken..], &mut out[written..]);
+        let next = feed_next(reader, &mut known, &input[taken..], &mut out[written..]);
         taken += next.taken;
         written += next.written;
     }

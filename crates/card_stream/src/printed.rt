@@ -4,63 +4,84 @@
 ghost use Rattle.std.specs.Prelude.{◌≤◌, ◌≡◌, length, Err};
 ghost use Rattle.wire.specs.declared.events.Event.TheVariants as E;
 ghost use Rattle.card_text.specs.Lines.{laid, line_bytes, most_bytes};
-ghost use Rattle.card_stream.specs.Sessions.{sound, event_given, card_given};
+ghost use Rattle.card_stream.specs.Sessions.{Knows, event_given, card_given};
 ghost use Rattle.card_stream.specs.Feed.{given_text};
 
-use crate::session::{Session, count_next, run_advance, run_notice, run_set_up};
-use card_text::line::{put_fired_end, put_notice, put_refused};
+use crate::session::{Known, Session, count_next, pass_time, run_advance, run_notice, run_set_up};
+use card_text::line::{put_actions, put_fired_end, put_quiet_end, put_refused};
+use engine::notices::Turn;
 use lease::{LeaseNotice, LeaseNum, Reading};
 use wire::events::{CardRefusal, Event, SetUpCall};
 
 // Set-up prints nothing.
 #[tactic(auto, unfolding(crate::specs::Feed::given_text, card_text::specs::Lines::outcome_lines, card_text::specs::Lines::text_of))]
-fn put_set_up(s: &mut Session, u: SetUpCall, out: &mut [u8]) -> usize
-    requires { most_bytes ≤ length out.old }
+fn put_set_up(s: &mut Session, known: &mut Known, u: SetUpCall, out: &mut [u8]) -> usize
+    requires known { Knows known.old s.old }
+    requires room { most_bytes ≤ length out.old }
     ensures session_after { s.new ≡ (event_given s.old s.old.manager (E.SetUp u)).session }
     ensures value { result ≡ length (given_text (event_given s.old s.old.manager (E.SetUp u))) }
     ensures out_after { out.new ≡ laid (given_text (event_given s.old s.old.manager (E.SetUp u))) out.old }
-    ensures stays { sound s.new ≡ sound s.old }
+    ensures stays { Knows known.new s.new }
 {
-    match run_set_up(s, u) {
+    match run_set_up(s, known, u) {
         Ok(()) => 0,
         Err(refusal) => put_refused(out, s.cards, refusal),
     }
 }
 
-// The timers that fired, and the end of quiet time.
+// The timers that fired, and the end of quiet time. Out of line: few advances come here, and what they give is large.
+#[inline(never)]
 #[tactic(auto, unfolding(crate::specs::Feed::given_text, card_text::specs::Lines::outcome_lines, card_text::specs::Lines::text_of))]
-fn put_advance(s: &mut Session, is_known_sound: bool, to: Reading, out: &mut [u8]) -> usize
-    requires known { is_known_sound ≡ sound s.old }
+fn put_looked(s: &mut Session, known: &mut Known, to: Reading, out: &mut [u8]) -> usize
+    requires known { Knows known.old s.old }
     requires room { most_bytes ≤ length out.old }
     ensures session_after { s.new ≡ (event_given s.old s.old.manager (E.Advance to)).session }
     ensures value { result ≡ length (given_text (event_given s.old s.old.manager (E.Advance to))) }
     ensures out_after { out.new ≡ laid (given_text (event_given s.old s.old.manager (E.Advance to))) out.old }
-    ensures stays { sound s.new ≡ sound s.old }
+    ensures stays { Knows known.new s.new }
 {
-    match run_advance(s, is_known_sound, to) {
+    match run_advance(s, known, to) {
         Ok((num, advanced)) => put_fired_end(out, num, &advanced.fired, advanced.quiet_end),
         Err(refusal) => put_refused(out, s.cards, refusal),
     }
 }
 
+// An advance. Mostly it is known that nothing is due, and no list of timers is made.
+#[tactic(auto, using(card_text::proofs::LineText::nothing_listed), unfolding(crate::specs::Feed::given_text, card_text::specs::Lines::outcome_lines, card_text::specs::Lines::text_of))]
+fn put_advance(s: &mut Session, known: &mut Known, to: Reading, out: &mut [u8]) -> usize
+    requires known { Knows known.old s.old }
+    requires room { most_bytes ≤ length out.old }
+    ensures session_after { s.new ≡ (event_given s.old s.old.manager (E.Advance to)).session }
+    ensures value { result ≡ length (given_text (event_given s.old s.old.manager (E.Advance to))) }
+    ensures out_after { out.new ≡ laid (given_text (event_given s.old s.old.manager (E.Advance to))) out.old }
+    ensures stays { Knows known.new s.new }
+{
+    if let Some((_num, line)) = pass_time(s, known, to) {
+        return put_quiet_end(out, line);
+    }
+    put_looked(s, known, to, out)
+}
+
 // The actions of a notice.
+#[inline(always)]
 #[tactic(auto, unfolding(crate::specs::Feed::given_text, card_text::specs::Lines::outcome_lines, card_text::specs::Lines::text_of))]
 fn put_noticed(
     s: &mut Session,
-    is_known_sound: bool,
+    known: &mut Known,
     num: LeaseNum,
     notice: LeaseNotice,
     out: &mut [u8],
 ) -> usize
-    requires known { is_known_sound ≡ sound s.old }
+    requires known { Knows known.old s.old }
     requires room { most_bytes ≤ length out.old }
     ensures session_after { s.new ≡ (event_given s.old s.old.manager (E.Notice num notice)).session }
     ensures value { result ≡ length (given_text (event_given s.old s.old.manager (E.Notice num notice))) }
     ensures out_after { out.new ≡ laid (given_text (event_given s.old s.old.manager (E.Notice num notice))) out.old }
-    ensures stays { sound s.new ≡ sound s.old }
+    ensures stays { Knows known.new s.new }
 {
-    match run_notice(s, is_known_sound, num, notice) {
-        Ok(lines) => put_notice(out, lines),
+    let mut turn = Turn::NONE;
+    match run_notice(s, known, num, notice, &mut turn) {
+        Ok(()) => put_actions(out, num, turn.higher, &turn.actions),
         Err(refusal) => put_refused(out, s.cards, refusal),
     }
 }
@@ -72,26 +93,27 @@ pub(crate) fn put_refused_card(s: &mut Session, refusal: CardRefusal, out: &mut 
     ensures session_after { s.new ≡ (card_given s.old (Err refusal)).session }
     ensures value { result ≡ length (given_text (card_given s.old (Err refusal))) }
     ensures out_after { out.new ≡ laid (given_text (card_given s.old (Err refusal))) out.old }
-    ensures stays { sound s.new ≡ sound s.old }
+    ensures record_stays { s.new.manager ≡ s.old.manager }
 {
     s.cards = count_next(s.cards);
     put_refused(out, s.cards, refusal)
 }
 
-/// A card, as its line was read, where it is known whether the session is sound; it stays so.
+/// A card, as its line was read, and what is known of the session after it.
+#[inline(always)]
 #[tactic(auto, unfolding(crate::specs::Feed::given_text, crate::specs::Sessions::card_given, crate::specs::Sessions::counted))]
 pub(crate) fn put_card(
     s: &mut Session,
-    is_known_sound: bool,
+    known: &mut Known,
     read: Result<Event, CardRefusal>,
     out: &mut [u8],
 ) -> usize
-    requires known { is_known_sound ≡ sound s.old }
+    requires known { Knows known.old s.old }
     requires room { most_bytes ≤ length out.old }
     ensures session_after { s.new ≡ (card_given s.old read).session }
     ensures value { result ≡ length (given_text (card_given s.old read)) }
     ensures out_after { out.new ≡ laid (given_text (card_given s.old read)) out.old }
-    ensures stays { sound s.new ≡ sound s.old }
+    ensures stays { Knows known.new s.new }
 {
     let event = match read {
         Err(refusal) => return put_refused_card(s, refusal, out),
@@ -99,8 +121,8 @@ pub(crate) fn put_card(
     };
     s.cards = count_next(s.cards);
     match event {
-        Event::SetUp(u) => put_set_up(s, u, out),
-        Event::Advance(to) => put_advance(s, is_known_sound, to, out),
-        Event::Notice(num, notice) => put_noticed(s, is_known_sound, num, notice, out),
+        Event::SetUp(u) => put_set_up(s, known, u, out),
+        Event::Advance(to) => put_advance(s, known, to, out),
+        Event::Notice(num, notice) => put_noticed(s, known, num, notice, out),
     }
 }

@@ -2,12 +2,12 @@
 // whole in the input is read straight from there. Every program that reads cards reads them by this. Definitions in specs/Reader.
 
 ghost use Rattle.std.specs.Prelude.{ℕ, List, [], ◌≤◌, ◌≡◌, ◌≢◌, ◌++◌, length, take, get_or, Option, IfSome};
-ghost use Rattle.card_stream.specs.Sessions.{card_given, sound};
+ghost use Rattle.card_stream.specs.Sessions.{card_given, Knows};
 ghost use Rattle.card_stream.specs.Reader.{session_of, blank_reader, ended_by, ended, byte_next, chunk_next, end_next, end_given, HasRead};
 ghost use Rattle.card_stream.specs.Feed.{feed_text, CardStands};
 
 use crate::partial::{EMPTY, Partial};
-use crate::session::{Session, blank_session, is_sound, take_known};
+use crate::session::{Known, Session, blank_session, known_of, take_known};
 use card_text::card::{CARD, COLUMNS, event_in, read_card};
 use wire::calls::CallC;
 use wire::events::{CardGiven, CardRefusal, Event};
@@ -41,16 +41,16 @@ impl CardReader {
     #[tactic(auto, unfolding(crate::specs::Reader::ended_by))]
     fn end_line(
         &mut self,
-        is_known_sound: bool,
+        known: &mut Known,
         read: Result<Event, CardRefusal>,
     ) -> Result<CardGiven, CardRefusal>
-        requires { is_known_sound ≡ sound self.old.session }
+        requires { Knows known.old self.old.session }
         ensures self_after { self.new ≡ ended_by self.old (card_given self.old.session read) }
         ensures value { result ≡ (card_given self.old.session read).outcome }
-        ensures stays { sound self.new.session ≡ sound self.old.session }
+        ensures stays { Knows known.new self.new.session }
     {
         self.partial.filled = 0;
-        take_known(&mut self.session, is_known_sound, read)
+        take_known(&mut self.session, known, read)
     }
 
     // The card that stands in front of the input where no line has begun; none where its 73 columns are no numbers or no newline stands
@@ -65,28 +65,27 @@ impl CardReader {
         read_card(&input[..COLUMNS])
     }
 
-    // The line so far ends, where nothing is asked for but the session. Here and below it is known whether that is sound (`is_sound`), and it
-    // stays so. What a card gives is held here alone: a function fills its locals each time, and `take_next` is called for each line.
+    // The line so far ends, where nothing is asked for but the session. Here and below `known` is what is known of the session. What a card gives is held here alone: a function fills its locals each time, and `take_next` is called for each line.
     #[inline(never)]
     #[tactic(auto, unfolding(crate::specs::Reader::line_given))]
-    fn pass_newline(&mut self, is_known_sound: bool)
-        requires { is_known_sound ≡ sound self.old.session }
+    fn pass_newline(&mut self, known: &mut Known)
+        requires { Knows known.old self.old.session }
         ensures self_after { self.new ≡ ended self.old }
-        ensures stays { sound self.new.session ≡ sound self.old.session }
+        ensures stays { Knows known.new self.new.session }
     {
         let read = self.partial.read();
-        let _outcome = self.end_line(is_known_sound, read);
+        let _outcome = self.end_line(known, read);
     }
 
     // The line of that card, straight from the input, and its newline.
-    fn pass_line(&mut self, is_known_sound: bool, input: &[u8], card: CallC)
-        requires known { is_known_sound ≡ sound self.old.session }
+    fn pass_line(&mut self, known: &mut Known, input: &[u8], card: CallC)
+        requires known { Knows known.old self.old.session }
         requires stands { CardStands self.old input.now card }
         ensures self_after { self.new ≡ chunk_next self.old (take 74 input.now) }
-        ensures stays { sound self.new.session ≡ sound self.old.session }
+        ensures stays { Knows known.new self.new.session }
     {
         self.partial.hold(&input[..COLUMNS]);
-        let _outcome = self.end_line(is_known_sound, event_in(card));
+        let _outcome = self.end_line(known, event_in(card));
     }
 
     // The bytes in front of the input that stand before a newline, or all: they print nothing. Answers how many they are.
@@ -107,21 +106,21 @@ impl CardReader {
     }
 
     // A line, and where no card stands the bytes before a newline, or the newline. Answers how many bytes were taken.
-    fn take_next(&mut self, is_known_sound: bool, input: &[u8]) -> usize
-        requires known { is_known_sound ≡ sound self.old.session }
+    fn take_next(&mut self, known: &mut Known, input: &[u8]) -> usize
+        requires known { Knows known.old self.old.session }
         requires some { 1 ≤ length input.now }
         ensures bounds { (1 ≤ result) × (result ≤ length input.now) }
         ensures self_after { self.new ≡ chunk_next self.old (take result input.now) }
-        ensures stays { sound self.new.session ≡ sound self.old.session }
+        ensures stays { Knows known.new self.new.session }
     {
         if let Some(card) = self.card_in(input) {
-            self.pass_line(is_known_sound, input, card);
+            self.pass_line(known, input, card);
             return CARD;
         }
         if input[0] != NEWLINE {
             return self.keep_bytes(input);
         }
-        self.pass_newline(is_known_sound);
+        self.pass_newline(known);
         1
     }
 
@@ -131,10 +130,10 @@ impl CardReader {
         ensures self_after { self.new ≡ chunk_next self.old input.now }
         ensures has_read { (before : List ℕ) → HasRead self.old before → HasRead self.new (before ++ input.now) }
     {
-        let is_known_sound = is_sound(&self.session);
+        let mut known = known_of(&self.session);
         let mut taken = 0;
         while taken < input.len() {
-            taken += self.take_next(is_known_sound, &input[taken..]);
+            taken += self.take_next(&mut known, &input[taken..]);
         }
     }
 
@@ -149,7 +148,7 @@ impl CardReader {
         if self.partial.filled == 0 {
             return None;
         }
-        let is_known_sound = is_sound(&self.session);
-        Some(self.end_line(is_known_sound, Err(CardRefusal::NotOfForm)))
+        let mut known = known_of(&self.session);
+        Some(self.end_line(&mut known, Err(CardRefusal::NotOfForm)))
     }
 }

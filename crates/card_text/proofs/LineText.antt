@@ -1,5 +1,5 @@
 -- The text of output lines: how long it is, and how it is laid over bytes line by line. Assumes nothing.
-use Rattle.std.proofs.Common.{◌≡◌, refl, sym, ap, ℕ, suc, ◌+◌, ◌*◌, ◌≤◌, ◌<◌, List, [], ◌∷◌, ◌++◌, length, take, drop, get_or, append_assoc, arith, length-append, length-take-le, length-drop, ◌-◌}
+use Rattle.std.proofs.Common.{true, false, ◌≡◌, refl, sym, ap, ℕ, suc, ◌+◌, ◌*◌, ◌≤◌, ◌<◌, List, [], ◌∷◌, ◌++◌, length, take, drop, get_or, append_assoc, arith, length-append, length-take-le, length-drop, ◌-◌}
 use borrow.Rule.Slice.PartMut.{put_mid}
 use Rattle.std.proofs.lemmas.List.{take_all, drop_all}
 use mathlib.Core.List.{append-nil}
@@ -8,11 +8,19 @@ use lib.ListN.{length-take}
 use lib.Seq.{sets, take-suc, take_at, drop_at, drop-drop}
 use Rattle.lease.specs.declared.FiredTimer.{FiredTimer}
 use Rattle.lease.specs.declared.FiredTimers.{FiredTimers}
-use Rattle.lease.specs.Fired.{listed_in}
+use Rattle.std.specs.Prelude.{Option}
+use Rattle.lease.specs.declared.Line.{Line}
+use Rattle.lease.specs.Fired.{listed_in, fired_array}
+use Rattle.lease.specs.declared.LeaseNum.{LeaseNum}
+use Rattle.lease.specs.declared.LeaseAction.TheVariants as A
+use Rattle.lease.specs.declared.Actions.{Actions}
+use Rattle.lease.specs.declared.Actions.TheVariants as AS
+use Rattle.lease.specs.Notices.{line, numbered}
+use Rattle.wire.specs.Lines.{line_of}
 use Rattle.card_text.specs.Columns.{places, column}
 use Rattle.card_text.proofs.Text.{sets-laid}
 use Rattle.wire.specs.declared.lines.LineC.{LineC}
-use Rattle.card_text.specs.Lines.{line_columns, line_text, text_of, laid, timer_line, timer_lines, timers_bytes}
+use Rattle.card_text.specs.Lines.{line_columns, line_text, text_of, laid, notice_lines, quiet_lines, timer_line, timer_lines, timers_bytes}
 
 -- ---- one line
 
@@ -93,3 +101,15 @@ fired_length num ts = rw (length-text (timer_lines num ts), length-fired num ts)
 
 pub fired_end : (num : ℕ) (f : FiredTimers) → length (text_of (timer_lines num (listed_in f))) ≤ timers_bytes
 fired_end num f = rw (fired_length num (listed_in f), length-take) (omega arith)
+
+-- the line of a number that was raised stands before the others
+pub higher_first : (num : LeaseNum) (a : Actions) → text_of (notice_lines (numbered num true a)) ≡ line_text (line_of (line num A.HigherNumber)) ++ text_of (notice_lines (numbered num false a))
+unfolding notice_lines text_of
+higher_first num AS.None = refl
+higher_first num (AS.One a) = refl
+higher_first num (AS.Two a b) = refl
+
+-- of no timers there is none
+pub nothing_listed : (num : ℕ) (end : Option Line) → timer_lines num (listed_in (fired_array [])) ++ quiet_lines end ≡ quiet_lines end
+unfolding timer_lines fired_array
+nothing_listed num end = refl

@@ -72,6 +72,9 @@ outcome_text card outcome = text_of (outcome_lines card outcome)
 abbrev pub line_bytes : ℕ
 line_bytes = 70
 
+abbrev pub two_lines : ℕ
+two_lines = 140
+
 -- A notice's lines.
 abbrev pub notice_bytes : ℕ
 notice_bytes = 3 * line_bytes

@@ -10,7 +10,7 @@ ghost use Rattle.card_text.specs.Claims.{WideCard};
 
 use crate::columns::{number_of_2, number_of_4, number_of_21, put_column};
 use wire::calls::CallC;
-use wire::events::{CardRefusal, Event, card_of, event_of, is_card, is_carried};
+use wire::events::{CardRefusal, Event, card_of, event_if_card, is_carried};
 
 /// How long a card is, in bytes, without its newline.
 pub const COLUMNS: usize = 73;
@@ -46,10 +46,7 @@ pub fn event_in(c: CallC) -> Result<Event, CardRefusal>
     ensures value { result ≡ event_in (Some c) }
     ensures number { refused_with result ≡ form_number (Some c) }
 {
-    if !is_card(c) {
-        return Err(CardRefusal::NoCard);
-    }
-    Ok(event_of(c))
+    event_if_card(c).ok_or(CardRefusal::NoCard)
 }
 
 /// The event of a line, which is handed in without its newline. Refused with 21 where the line is not of the form, with 22 where its

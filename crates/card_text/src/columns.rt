@@ -1,21 +1,22 @@
 // Decimal numbers in fixed columns of bytes (rule 14.1): right-justified, no leading zeros. Definitions in specs/Columns.
 
-ghost use Rattle.std.specs.Prelude.{◌+◌, ◌/◌, ◌%◌, ◌≡◌, ◌≢◌, ◌≤◌, ◌<◌, Option, [], ◌∷◌, length, drop, get_or, set, replicate};
+ghost use Rattle.std.specs.Prelude.{ℕ, ◌+◌, ◌*◌, ◌/◌, ◌%◌, ◌≡◌, ◌≢◌, ◌≤◌, ◌<◌, Option, Some, IfSome, [], ◌∷◌, length, take, drop, get_or, set, replicate};
+ghost use Rattle.std.specs.Int.{w64, from_le_bytes};
 ghost use Rattle.std.specs.Bool.{OnTrue};
-ghost use Rattle.card_text.specs.Columns.{digit, place_byte, column, number_of, number_behind};
+ghost use Rattle.card_text.specs.Columns.{digit, place_byte, column, number_of, number_behind, max_number};
 
 // ---- reading
 
 // Eight blanks.
 const BLANKS: u64 = 0x2020_2020_2020_2020;
 
-// Whether eight blanks stand there.
+// Eight columns from i on as a word, the first of them lowest.
 #[inline(always)]
-fn has_eight_blanks(columns: &[u8], i: usize) -> bool
+fn word_at(columns: &[u8], i: usize) -> u64
     requires { i + 8 ≤ length columns.now }
-    ensures { OnTrue result (number_of (drop i columns.now) ≡ number_of (drop (i + 8) columns.now)) }
+    ensures { result ≡ from_le_bytes w64 (take 8 (drop i columns.now)) }
 {
-    let eight = [
+    u64::from_le_bytes([
         columns[i],
         columns[i + 1],
         columns[i + 2],
@@ -24,8 +25,26 @@ fn has_eight_blanks(columns: &[u8], i: usize) -> bool
         columns[i + 5],
         columns[i + 6],
         columns[i + 7],
-    ];
-    u64::from_le_bytes(eight) == BLANKS
+    ])
+}
+
+// Whether eight blanks stand there.
+#[inline(always)]
+fn has_eight_blanks(columns: &[u8], i: usize) -> bool
+    requires { i + 8 ≤ length columns.now }
+    ensures { OnTrue result (number_of (drop i columns.now) ≡ number_of (drop (i + 8) columns.now)) }
+{
+    word_at(columns, i) == BLANKS
+}
+
+// Whether four blanks stand there.
+#[inline(always)]
+fn has_four_blanks(columns: &[u8], i: usize) -> bool
+    requires { i + 4 ≤ length columns.now }
+    ensures { OnTrue result (number_of (drop i columns.now) ≡ number_of (drop (i + 4) columns.now)) }
+{
+    let four = [columns[i], columns[i + 1], columns[i + 2], columns[i + 3]];
+    u32::from_le_bytes(four) == 0x2020_2020
 }
 
 // Where blanks end, by eights: fewer than eight bytes more may be blanks.
@@ -89,12 +108,12 @@ pub fn number_of(columns: &[u8]) -> Option<u64>
     number_behind(u64::from(first - b'0'), &columns[i + 1..])
 }
 
-// ---- reading few columns: numbers of up to four digits, which need no test of their size
+// ---- reading few columns: up to four digits, which need no test of their size
 
 // The number whose digits so far say v, where one byte more is its last digit.
 #[inline(always)]
 fn with_last(v: u64, last: u8) -> Option<u64>
-    requires { v < 1000 }
+    requires { v < 1844674407370955140 }
     ensures { result ≡ number_behind v (last ∷ []) }
 {
     if !last.is_ascii_digit() {
@@ -106,7 +125,7 @@ fn with_last(v: u64, last: u8) -> Option<u64>
 // Where two bytes more are its last digits.
 #[inline(always)]
 fn with_two(v: u64, third: u8, last: u8) -> Option<u64>
-    requires { v < 100 }
+    requires { v < 184467440737095514 }
     ensures { result ≡ number_behind v (third ∷ last ∷ []) }
 {
     if !third.is_ascii_digit() {
@@ -118,13 +137,25 @@ fn with_two(v: u64, third: u8, last: u8) -> Option<u64>
 // Where three bytes more are its last digits.
 #[inline(always)]
 fn with_three(v: u64, second: u8, third: u8, last: u8) -> Option<u64>
-    requires { v < 10 }
+    requires { v < 18446744073709551 }
     ensures { result ≡ number_behind v (second ∷ third ∷ last ∷ []) }
 {
     if !second.is_ascii_digit() {
         return None;
     }
     with_two(v * 10 + u64::from(second - b'0'), third, last)
+}
+
+// Where four bytes more are its last digits.
+#[inline(always)]
+fn with_four(v: u64, first: u8, second: u8, third: u8, last: u8) -> Option<u64>
+    requires { v < 1844674407370955 }
+    ensures { result ≡ number_behind v (first ∷ second ∷ third ∷ last ∷ []) }
+{
+    if !first.is_ascii_digit() {
+        return None;
+    }
+    with_three(v * 10 + u64::from(first - b'0'), second, third, last)
 }
 
 // The number in one column.
@@ -172,11 +203,26 @@ fn number_in_three(second: u8, third: u8, last: u8) -> Option<u64>
     with_two(u64::from(second - b'0'), third, last)
 }
 
+// The number in four columns, if it has one digit, as most have: one test of all four.
+#[inline(always)]
+fn digit_in_four(first: u8, second: u8, third: u8, last: u8) -> Option<u64>
+    ensures { IfSome result (λ n. number_of (first ∷ second ∷ third ∷ last ∷ []) ≡ Some n) }
+{
+    let digit = u32::from_be_bytes([first, second, third, last]).wrapping_sub(0x2020_2030);
+    if digit >= 10 {
+        return None;
+    }
+    Some(u64::from(digit))
+}
+
 // The number in four columns.
 #[inline(always)]
 fn number_in_four(first: u8, second: u8, third: u8, last: u8) -> Option<u64>
     ensures { result ≡ number_of (first ∷ second ∷ third ∷ last ∷ []) }
 {
+    if let Some(n) = digit_in_four(first, second, third, last) {
+        return Some(n);
+    }
     if first == b' ' {
         return number_in_three(second, third, last);
     }
@@ -187,6 +233,94 @@ fn number_in_four(first: u8, second: u8, third: u8, last: u8) -> Option<u64>
         return None;
     }
     with_three(u64::from(first - b'0'), second, third, last)
+}
+
+// ---- reading 21 columns, four at a time
+
+// What v and four digits behind it say, from i on; none where they are no digits, or v has no room for any four.
+#[inline(always)]
+fn four_more(v: u64, columns: &[u8], i: usize) -> Option<u64>
+    requires { i + 4 ≤ length columns.now }
+    ensures { IfSome result (λ n. number_behind v (drop i columns.now) ≡ number_behind n (drop (i + 4) columns.now)) }
+{
+    if v >= 1_844_674_407_370_955 {
+        return None;
+    }
+    with_four(
+        v,
+        columns[i],
+        columns[i + 1],
+        columns[i + 2],
+        columns[i + 3],
+    )
+}
+
+// And eight digits.
+#[inline(always)]
+fn eight_more(v: u64, columns: &[u8], i: usize) -> Option<u64>
+    requires { i + 8 ≤ length columns.now }
+    ensures { IfSome result (λ n. number_behind v (drop i columns.now) ≡ number_behind n (drop (i + 8) columns.now)) }
+{
+    four_more(four_more(v, columns, i)?, columns, i + 4)
+}
+
+// The number above 0 that four columns from i on begin with; none where there may be none.
+#[inline(always)]
+fn begun_in_four(columns: &[u8], i: usize) -> Option<u64>
+    requires { i + 4 ≤ length columns.now }
+    ensures { IfSome result (λ v. number_of (drop i columns.now) ≡ number_behind v (drop (i + 4) columns.now)) }
+{
+    let v = number_in_four(columns[i], columns[i + 1], columns[i + 2], columns[i + 3])?;
+    if v == 0 {
+        return None;
+    }
+    Some(v)
+}
+
+// And that eight columns begin with.
+#[inline(always)]
+fn begun_in_eight(columns: &[u8], i: usize) -> Option<u64>
+    requires { i + 8 ≤ length columns.now }
+    ensures { IfSome result (λ v. number_of (drop i columns.now) ≡ number_behind v (drop (i + 8) columns.now)) }
+{
+    if has_four_blanks(columns, i) {
+        return begun_in_four(columns, i + 4);
+    }
+    four_more(begun_in_four(columns, i)?, columns, i + 4)
+}
+
+// The number above 0 in 21 columns; none where there may be none.
+#[inline(always)]
+fn number_by_fours(columns: &[u8]) -> Option<u64>
+    requires { length columns.now ≡ 21 }
+    ensures { IfSome result (λ n. number_of columns.now ≡ Some n) }
+{
+    if has_four_blanks(columns, 0) && columns[4] == b' ' {
+        if has_eight_blanks(columns, 5) {
+            return begun_in_eight(columns, 13);
+        }
+        return eight_more(begun_in_eight(columns, 5)?, columns, 13);
+    }
+    if columns[0] != b' ' {
+        return None;
+    }
+    eight_more(
+        eight_more(begun_in_four(columns, 1)?, columns, 5)?,
+        columns,
+        13,
+    )
+}
+
+// The number in 21 columns; where it cannot be read four at a time, byte by byte.
+#[inline(never)]
+fn number_of_long(columns: &[u8]) -> Option<u64>
+    requires { length columns.now ≡ 21 }
+    ensures { result ≡ number_of columns.now }
+{
+    match number_by_fours(columns) {
+        Some(n) => Some(n),
+        None => number_of(columns),
+    }
 }
 
 // ---- reading a card's columns: `number_of` for their three widths. Most numbers of a card have few digits
@@ -218,14 +352,13 @@ pub fn number_of_4(columns: &[u8]) -> Option<u64>
 pub fn number_of_21(columns: &[u8]) -> Option<u64>
     ensures { result ≡ number_of columns.now }
 {
-    if columns.len() == 21
-        && has_eight_blanks(columns, 0)
-        && has_eight_blanks(columns, 8)
-        && columns[16] == b' '
-    {
+    if columns.len() != 21 {
+        return number_of(columns);
+    }
+    if has_eight_blanks(columns, 0) && has_eight_blanks(columns, 8) && columns[16] == b' ' {
         return number_in_four(columns[17], columns[18], columns[19], columns[20]);
     }
-    number_of(columns)
+    number_of_long(columns)
 }
 
 // ---- writing

@@ -1,16 +1,17 @@
 // Output lines (rule 14.4): 69 columns and a newline. Writing the lines of what a card gives, and reading one line back. Definitions in
 // specs/Lines.
 
-ghost use Rattle.std.specs.Prelude.{◌≤◌, ◌≡◌, ◌∷◌, [], cond, length, take, Option, Some, Ok, Err};
+ghost use Rattle.std.specs.Prelude.{false, ◌≤◌, ◌≡◌, ◌∷◌, [], cond, length, take, Option, Some, Ok, Err};
 ghost use Rattle.wire.specs.declared.events.CardGiven.TheVariants as O;
 ghost use Rattle.std.specs.Bool.{OnTrue};
 ghost use Rattle.std.proofs.lemmas.List.Edits.{sets};
 ghost use Rattle.lease.specs.Fired.{listed_in};
-ghost use Rattle.card_text.specs.Lines.{line_text, text_of, laid, timer_line, timer_lines, notice_lines, quiet_lines, outcome_text, line_bytes, notice_bytes, timers_bytes, most_bytes, line_fits, can_write_line, line_read, lines_in};
+ghost use Rattle.lease.specs.Notices.{numbered};
+ghost use Rattle.card_text.specs.Lines.{line_text, text_of, laid, timer_line, timer_lines, notice_lines, quiet_lines, outcome_text, line_bytes, two_lines, notice_bytes, timers_bytes, most_bytes, line_fits, can_write_line, line_read, lines_in};
 ghost use Rattle.card_text.specs.Claims.{WideLine};
 
 use crate::columns::{number_of, put_digits};
-use lease::{FiredTimer, FiredTimers, LeaseNum, Line, Lines, TIMERS};
+use lease::{Actions, FiredTimer, FiredTimers, LeaseAction, LeaseNum, Line, TIMERS};
 use wire::events::CardRefusal;
 use wire::lines::{LineC, line_c, line_of};
 
@@ -29,7 +30,8 @@ pub const MOST: usize = TIMERS * LINE + LINE;
 const BLANK_LINE: [u8; LINE] =
     *b"                                                                     \n";
 
-// A line with its newline: the digits of its numbers over a blank line.
+// A line with its newline: the digits of its numbers over a blank line. In line, so that the numbers need not be handed over in memory.
+#[inline(always)]
 #[tactic(auto, using(crate::proofs::LineText::length_line), unfolding(crate::specs::Lines::line_text, crate::specs::Lines::line_columns))]
 fn put_line(out: &mut [u8], l: LineC) -> usize
     requires { line_bytes ≤ length out.old }
@@ -72,31 +74,40 @@ fn put_fired(out: &mut [u8], num: u64, fired: &FiredTimers) -> usize
     listed.len() * LINE
 }
 
-/// Puts the lines of a notice's actions, in order.
+// The lines of actions under a number.
 #[tactic(auto, using(crate::proofs::LineText::text_of_one, crate::proofs::LineText::first_laid), unfolding(crate::specs::Lines::notice_lines, crate::specs::Lines::text_of))]
-pub fn put_notice(out: &mut [u8], lines: Lines) -> usize
-    requires { notice_bytes ≤ length out.old }
-    ensures value { result ≡ length (text_of (notice_lines lines)) }
-    ensures out_after { out.new ≡ laid (text_of (notice_lines lines)) out.old }
+fn put_under(out: &mut [u8], num: LeaseNum, actions: &Actions) -> usize
+    requires { two_lines ≤ length out.old }
+    ensures value { result ≡ length (text_of (notice_lines (numbered num false actions.now))) }
+    ensures out_after { out.new ≡ laid (text_of (notice_lines (numbered num false actions.now))) out.old }
 {
-    match lines {
-        Lines::None => 0,
-        Lines::One(a) => put_line(out, line_of(a)),
-        Lines::Two(a, b) => {
+    match actions {
+        Actions::None => 0,
+        Actions::One(a) => put_line(out, line_of(Line(num, *a))),
+        Actions::Two(a, b) => {
             let (first, second) = out.split_at_mut(LINE);
-            put_line(first, line_of(a)) + put_line(second, line_of(b))
-        }
-        Lines::Three(a, b, c) => {
-            let (first, behind) = out.split_at_mut(LINE);
-            let (second, third) = behind.split_at_mut(LINE);
-            put_line(first, line_of(a)) + put_line(second, line_of(b)) + put_line(third, line_of(c))
+            put_line(first, line_of(Line(num, *a))) + put_line(second, line_of(Line(num, *b)))
         }
     }
 }
 
-// The quiet-end line, if there is one.
+/// Puts the lines of a notice's actions under its number, in order; where the number was raised, HigherNumber first (rules 7.2, 7.14).
+#[tactic(auto, using(crate::proofs::LineText::higher_first, crate::proofs::LineText::first_laid))]
+pub fn put_actions(out: &mut [u8], num: LeaseNum, higher: bool, actions: &Actions) -> usize
+    requires { notice_bytes ≤ length out.old }
+    ensures value { result ≡ length (text_of (notice_lines (numbered num higher actions.now))) }
+    ensures out_after { out.new ≡ laid (text_of (notice_lines (numbered num higher actions.now))) out.old }
+{
+    if !higher {
+        return put_under(out, num, actions);
+    }
+    let (first, behind) = out.split_at_mut(LINE);
+    put_line(first, line_of(Line(num, LeaseAction::HigherNumber))) + put_under(behind, num, actions)
+}
+
+/// Puts the line that ends quiet time, if there is one.
 #[tactic(auto, using(crate::proofs::LineText::text_of_one), unfolding(crate::specs::Lines::quiet_lines, crate::specs::Lines::text_of))]
-fn put_quiet_end(out: &mut [u8], end: Option<Line>) -> usize
+pub fn put_quiet_end(out: &mut [u8], end: Option<Line>) -> usize
     requires { line_bytes ≤ length out.old }
     ensures value { result ≡ length (text_of (quiet_lines end)) }
     ensures out_after { out.new ≡ laid (text_of (quiet_lines end)) out.old }

@@ -1,2 +1,4 @@
 pub mod Laws
 pub mod CallsLaws
+pub mod NotBefore
+pub mod Turns

@@ -1,1 +1,3 @@
 pub mod Fits
+pub mod Due
+pub mod Turns

@@ -10,7 +10,8 @@ ghost use Rattle.refusals.specs.Fits.{ManagerFits};
 
 use drift::floats::quotient;
 use lease::{Advanced, Bitmap, Clock, LeaseAction, LeaseNum, Line, Manager, Reading, ReplicaId};
-use peer_rows::each_row::{Advance, Due, Refresh};
+use peer_rows::each_row::{Due, Refresh};
+use peer_rows::exploding::explode;
 use peer_rows::firing::fired_timers;
 use peer_rows::pass::{pass_over, sets_over};
 use timer::drifted_ns;
@@ -59,9 +60,9 @@ pub fn start_quiet(m: &mut Manager)
 }
 
 /// Advance (rules 8.1 to 8.4): the reading is set, and each timer that is due explodes once. The
-/// fired list is ordered by the deadlines before they explode, so it is made before they do. Where
-/// nothing is due the rows are only read.
-#[tactic(auto, using(peer_rows::proofs::NoneDue::none_due), unfolding(lease::specs::Calls::advance_to, lease::specs::Calls::fired_by, lease::specs::Passes::pass_over))]
+/// fired list is ordered by the deadlines before they explode, so it is made before they do. Rows
+/// with nothing that is due are only read.
+#[tactic(auto, unfolding(lease::specs::Calls::advance_to, lease::specs::Calls::fired_by, lease::specs::Passes::pass_over))]
 pub fn advance_to(m: &mut Manager, to: Reading) -> Advanced
     requires { ManagerFits m.old }
     ensures answer { (advance_to m.old to).outcome ≡ Ok result }
@@ -73,11 +74,9 @@ pub fn advance_to(m: &mut Manager, to: Reading) -> Advanced
         sent: due.first,
         held: due.second,
         quiet_end: quiet_end(quiet_fires(to, m.quiet_timer), me, n),
-        fired: fired_timers(&m.peers, due.first, due.second),
+        fired: fired_timers(&m.peers, due),
     };
-    if due.first.bits != 0 || due.second.bits != 0 {
-        pass_over(&mut m.peers, me, n, &Advance { to });
-    }
+    explode(&mut m.peers, me, n, to, due);
     m.quiet_timer = quiet_at(to, m.quiet_timer);
     m.now = to;
     advanced

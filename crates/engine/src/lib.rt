@@ -4,6 +4,7 @@
 
 pub mod calls;
 pub mod clock;
+pub mod due;
 pub mod lines;
 pub mod notices;
 pub mod questions;

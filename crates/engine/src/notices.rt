@@ -5,6 +5,7 @@ ghost use Rattle.std.specs.Prelude.{◌≡◌, ◌<◌};
 ghost use Rattle.lease.specs.Notices.{term_of, on_peer, handle_new_grants, handle_do_revoke, handle_clear_held, handle_notice, raised_to, accepted_of};
 ghost use Rattle.refusals.specs.Fits.{ManagerFits};
 ghost use Rattle.engine.specs.Fits.{PeerBelow};
+ghost use Rattle.engine.specs.Turns.{turn_of};
 
 use crate::lines::{number_actions, reply_outdated};
 use lease::{
@@ -27,16 +28,16 @@ fn term_of(m: &Manager) -> Term
     }
 }
 
-/// A notice about one peer (rules 7.7 to 7.13): that peer's row alone changes.
+/// A notice about one peer (rules 7.7 to 7.13): that peer's row alone changes. Its actions are lent.
 #[tactic(auto, unfolding(lease::specs::Notices::on_peer))]
-pub fn on_peer(m: &mut Manager, id: ReplicaId, notice: PeerNotice) -> Actions
+pub fn on_peer(m: &mut Manager, id: ReplicaId, notice: PeerNotice, actions: &mut Actions)
     requires fits { ManagerFits m.old }
     requires below { id < m.old.population }
-    ensures actions { result ≡ (on_peer m.old id notice).actions }
+    ensures actions_after { actions.new ≡ (on_peer m.old id notice).actions }
     ensures record_after { m.new ≡ (on_peer m.old id notice).manager }
 {
     let term = term_of(m);
-    handle_peer_notice(term, id, notice, &mut m.peers[id])
+    *actions = handle_peer_notice(term, id, notice, &mut m.peers[id]);
 }
 
 /// NewGrants (rule 7.4): one Guard is broadcast to the peers that get a fresh guard, even when
@@ -81,21 +82,24 @@ pub fn handle_clear_held(m: &mut Manager) -> Actions
     Actions::One(LeaseAction::LeaseCleared)
 }
 
-// The Rust's `handle_notice`: a notice under the active number.
+// The Rust's `handle_notice`: a notice under the active number. Its actions are lent: they are many
+// bytes, and stay where they are written.
 #[tactic(auto, unfolding(lease::specs::Notices::handle_notice))]
-fn handle_notice(m: &mut Manager, notice: LeaseNotice) -> Actions
+fn handle_notice(m: &mut Manager, notice: LeaseNotice, actions: &mut Actions)
     requires fits { ManagerFits m.old }
     requires below { PeerBelow m.old.population notice }
-    ensures actions { result ≡ (handle_notice m.old notice).actions }
+    ensures actions_after { actions.new ≡ (handle_notice m.old notice).actions }
     ensures record_after { m.new ≡ (handle_notice m.old notice).manager }
 {
     match notice {
-        LeaseNotice::NewGrants(set, bar) => handle_new_grants(m, set, bar),
-        LeaseNotice::DoRevoke(set) => handle_do_revoke(m, set),
-        LeaseNotice::ClearHeld => handle_clear_held(m),
-        LeaseNotice::RecvLeaseMsg(id, msg) => on_peer(m, id, PeerNotice::RecvLeaseMsg(msg)),
-        LeaseNotice::GrantTimeout(id) => on_peer(m, id, PeerNotice::GrantTimeout),
-        LeaseNotice::LeaseTimeout(id) => on_peer(m, id, PeerNotice::LeaseTimeout),
+        LeaseNotice::NewGrants(set, bar) => *actions = handle_new_grants(m, set, bar),
+        LeaseNotice::DoRevoke(set) => *actions = handle_do_revoke(m, set),
+        LeaseNotice::ClearHeld => *actions = handle_clear_held(m),
+        LeaseNotice::RecvLeaseMsg(id, msg) => {
+            on_peer(m, id, PeerNotice::RecvLeaseMsg(msg), actions);
+        }
+        LeaseNotice::GrantTimeout(id) => on_peer(m, id, PeerNotice::GrantTimeout, actions),
+        LeaseNotice::LeaseTimeout(id) => on_peer(m, id, PeerNotice::LeaseTimeout, actions),
     }
 }
 
@@ -111,22 +115,54 @@ fn raise(m: &mut Manager, num: LeaseNum)
     m.active_num = num;
 }
 
+/// What one turn of the Rust's `run` gives.
+#[derive(Clone, Copy)]
+pub struct Turn {
+    /// Whether the notice's number is higher than the active one was.
+    pub higher: bool,
+    /// The notice's actions.
+    pub actions: Actions,
+}
+
+impl Turn {
+    /// No action.
+    pub const NONE: Turn = Turn {
+        higher: false,
+        actions: Actions::None,
+    };
+}
+
 /// One turn of the Rust's `run`: under a lower number nothing changes (rule 7.1), a higher number
-/// is raised to first (rule 7.2), then the notice is handled.
+/// is raised to first (rule 7.2), then the notice is handled. What it gives is lent.
 #[tactic(auto, unfolding(lease::specs::Notices::accepted_of, lease::specs::Notices::raised_to))]
+pub fn run_turn(m: &mut Manager, num: LeaseNum, notice: LeaseNotice, turn: &mut Turn)
+    requires fits { ManagerFits m.old }
+    requires below { PeerBelow m.old.population notice }
+    ensures turn_after { turn.new ≡ turn_of m.old num notice }
+    ensures record_after { m.new ≡ (accepted_of m.old num notice).manager }
+{
+    let active_num = m.active_num;
+    if num < active_num {
+        turn.higher = false;
+        turn.actions = reply_outdated(notice);
+        return;
+    }
+    turn.higher = active_num < num;
+    if turn.higher {
+        raise(m, num);
+    }
+    handle_notice(m, notice, &mut turn.actions);
+}
+
+/// The same with the lines of its actions (rule 7.14).
+#[tactic(auto, using(crate::proofs::Turns::lines_of_turn))]
 pub fn run(m: &mut Manager, num: LeaseNum, notice: LeaseNotice) -> Lines
     requires fits { ManagerFits m.old }
     requires below { PeerBelow m.old.population notice }
     ensures lines { result ≡ (accepted_of m.old num notice).lines }
     ensures record_after { m.new ≡ (accepted_of m.old num notice).manager }
 {
-    let active_num = m.active_num;
-    if num < active_num {
-        return number_actions(num, false, reply_outdated(notice));
-    }
-    let higher = active_num < num;
-    if higher {
-        raise(m, num);
-    }
-    number_actions(num, higher, handle_notice(m, notice))
+    let mut turn = Turn::NONE;
+    run_turn(m, num, notice, &mut turn);
+    number_actions(num, turn.higher, turn.actions)
 }

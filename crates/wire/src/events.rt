@@ -2,11 +2,13 @@
 // Definitions in specs/Events. The six numbers are those of a call from the host, `CallC`; an event card is stricter: fields that its code
 // does not name are 0, and there are no questions.
 
-ghost use Rattle.std.specs.Prelude.{◌≡◌};
-ghost use Rattle.wire.specs.Events.{are_zeros, is_set_card, is_msg_card, is_new_grants_card, is_do_revoke_card, is_notice_card, is_card, event_of, set_size, set_bits, bar_flag, bar_of, msg_kind, msg_first, notice_card, card_of, carried_set, carried_notice, carried_event, is_carried};
+ghost use Rattle.std.specs.Prelude.{◌≡◌, ◌≢◌, cond, None, Option, Some};
+ghost use Rattle.lease.specs.declared.LeaseNotice.TheVariants as N;
+ghost use Rattle.wire.specs.Events.{are_zeros, is_set_card, is_msg_card, is_new_grants_card, is_card, event_of, set_size, set_bits, bar_flag, bar_of, msg_kind, msg_first, notice_card, card_of, carried_set, carried_notice, carried_event, is_carried};
+ghost use Rattle.wire.specs.Cards.{peer_set_of, accept_bar_of, msg_of, lease_notice_of};
 ghost use Rattle.wire.specs.Refusals.{card_refusal_number, CardRefusalOf};
 
-use crate::calls::{CallC, card, is_flag, lease_notice_of};
+use crate::calls::{CallC, card, is_flag, peer_set_of};
 use lease::{
     Bar, Bitmap, CAPACITY, FiredTimers, LeaseMsg, LeaseNotice, LeaseNum, Line, Lines, Reading,
     Refusal, ReplicaId,
@@ -76,9 +78,10 @@ pub enum CardGiven {
     Fired(LeaseNum, FiredTimers, Option<Line>),
 }
 
-// ---- which numbers are a card: refusal 22
+// ---- which numbers are a card, and what they say: none where they are no card, refusal 22
 
 // Unused fields are 0.
+#[inline(always)]
 fn are_zeros(a: u64, b: u64) -> bool
     ensures { result ≡ are_zeros a b }
 {
@@ -86,6 +89,7 @@ fn are_zeros(a: u64, b: u64) -> bool
 }
 
 // Size 0 is no set; else it is at most 64, and no one stands at or above it.
+#[inline(always)]
 #[tactic(auto, unfolding(crate::specs::Events::is_set_card))]
 fn is_set_card(size: u64, first: u64) -> bool
     ensures { result ≡ is_set_card size first }
@@ -94,84 +98,86 @@ fn is_set_card(size: u64, first: u64) -> bool
     size == capacity || size < capacity && first >> size == 0
 }
 
-// A message's kind, in size, and its first.
-#[tactic(auto, unfolding(crate::specs::Events::is_msg_card))]
-fn is_msg_card(kind: u64, first: u64) -> bool
-    ensures { result ≡ is_msg_card kind first }
-{
-    match kind {
-        1 | 3 | 4 | 6 => first == 0,
-        2 => true,
-        5 | 7 => is_flag(first),
-        _ => false,
-    }
-}
-
-#[tactic(auto, unfolding(crate::specs::Events::is_new_grants_card))]
-fn is_new_grants_card(c: CallC) -> bool
-    ensures { result ≡ is_new_grants_card c }
-{
-    is_set_card(c.size, c.first)
-        && if c.peer == 0 {
-            c.second == 0
-        } else {
-            c.peer == 1
-        }
-}
-
-#[tactic(auto, unfolding(crate::specs::Events::is_do_revoke_card))]
-fn is_do_revoke_card(c: CallC) -> bool
-    ensures { result ≡ is_do_revoke_card c }
-{
-    is_set_card(c.size, c.first) && are_zeros(c.peer, c.second)
-}
-
-// Codes 5 to 8.
-#[tactic(auto, unfolding(crate::specs::Events::is_notice_card))]
-fn is_notice_card(c: CallC) -> bool
-    ensures { result ≡ is_notice_card c }
-{
-    match c.code {
-        5 => are_zeros(c.peer, c.size) && are_zeros(c.first, c.second),
-        6 => c.second == 0 && is_msg_card(c.size, c.first),
-        7 | 8 => c.size == 0 && are_zeros(c.first, c.second),
-        _ => false,
-    }
-}
-
-/// Whether the six numbers are an event card; else they are refused with 22.
+// Code 3: a set, and second is a bar where peer is 1.
 #[inline(always)]
-#[tactic(auto, unfolding(crate::specs::Events::is_card))]
-pub fn is_card(c: CallC) -> bool
-    ensures { result ≡ is_card c }
+#[tactic(auto, unfolding(crate::specs::Events::is_new_grants_card, crate::specs::Cards::accept_bar_of))]
+fn new_grants_in(c: CallC) -> Option<LeaseNotice>
+    ensures { result ≡ cond (is_new_grants_card c) (Some (N.NewGrants (peer_set_of c) (accept_bar_of c))) None }
 {
-    match c.code {
-        1 => true,
-        2 => are_zeros(c.peer, c.size) && are_zeros(c.first, c.second),
-        3 => is_new_grants_card(c),
-        4 => is_do_revoke_card(c),
-        _ => is_notice_card(c),
+    if !is_set_card(c.size, c.first) {
+        return None;
+    }
+    match c.peer {
+        0 if c.second == 0 => Some(LeaseNotice::NewGrants(peer_set_of(c), None)),
+        1 => Some(LeaseNotice::NewGrants(peer_set_of(c), Some(Bar(c.second)))),
+        _ => None,
     }
 }
 
-// ---- what they say
+// A message: its kind in size, and its first.
+#[inline(always)]
+#[tactic(auto, unfolding(crate::specs::Events::is_msg_card, crate::specs::Cards::msg_of))]
+fn msg_in(c: CallC) -> Option<LeaseMsg>
+    ensures { result ≡ cond (is_msg_card c.size c.first) (Some (msg_of c)) None }
+{
+    match c.size {
+        1 if c.first == 0 => Some(LeaseMsg::Guard(None)),
+        2 => Some(LeaseMsg::Guard(Some(Bar(c.first)))),
+        3 if c.first == 0 => Some(LeaseMsg::GuardReply),
+        4 if c.first == 0 => Some(LeaseMsg::Promise),
+        5 if is_flag(c.first) => Some(LeaseMsg::PromiseReply(c.first == 1)),
+        6 if c.first == 0 => Some(LeaseMsg::Revoke),
+        7 if is_flag(c.first) => Some(LeaseMsg::RevokeReply(c.first == 1)),
+        _ => None,
+    }
+}
 
-/// The event of a card. Any code above 2 is read as a notice's: a caller asks `is_card` first.
-#[tactic(auto, unfolding(crate::specs::Events::event_of))]
-pub fn event_of(c: CallC) -> Event
-    ensures { result ≡ event_of c }
+// The notice of a card with a code above 2.
+#[inline(always)]
+#[tactic(auto, unfolding(crate::specs::Events::is_card, crate::specs::Events::is_do_revoke_card, crate::specs::Events::is_notice_card, crate::specs::Cards::lease_notice_of))]
+fn notice_in(c: CallC) -> Option<LeaseNotice>
+    requires { (c.code ≢ 1) × (c.code ≢ 2) }
+    ensures { result ≡ cond (is_card c) (Some (lease_notice_of c)) None }
 {
     match c.code {
-        // `as`: Rust has no `From` from u64 to usize.
-        1 => Event::SetUp(SetUpCall {
+        3 => new_grants_in(c),
+        4 if is_set_card(c.size, c.first) && are_zeros(c.peer, c.second) => {
+            Some(LeaseNotice::DoRevoke(peer_set_of(c)))
+        }
+        5 if are_zeros(c.peer, c.size) && are_zeros(c.first, c.second) => {
+            Some(LeaseNotice::ClearHeld)
+        }
+        6 if c.second == 0 => Some(LeaseNotice::RecvLeaseMsg(c.peer as usize, msg_in(c)?)),
+        7 if c.size == 0 && are_zeros(c.first, c.second) => {
+            Some(LeaseNotice::GrantTimeout(c.peer as usize))
+        }
+        8 if c.size == 0 && are_zeros(c.first, c.second) => {
+            Some(LeaseNotice::LeaseTimeout(c.peer as usize))
+        }
+        _ => None,
+    }
+}
+
+/// The event of six numbers, where they are an event card; else they are refused with 22. Ids are cast: Rust has no `From` from u64 to
+/// usize.
+#[inline(always)]
+#[tactic(auto, unfolding(crate::specs::Events::is_card, crate::specs::Events::event_of))]
+pub fn event_if_card(c: CallC) -> Option<Event>
+    ensures { result ≡ cond (is_card c) (Some (event_of c)) None }
+{
+    match c.code {
+        1 => Some(Event::SetUp(SetUpCall {
             me: c.peer as usize,
             population: c.size as usize,
             expire_timeout: c.first,
             heartbeat: c.second,
             now: Reading(c.number),
-        }),
-        2 => Event::Advance(Reading(c.number)),
-        _ => Event::Notice(LeaseNum(c.number), lease_notice_of(c)),
+        })),
+        2 if are_zeros(c.peer, c.size) && are_zeros(c.first, c.second) => {
+            Some(Event::Advance(Reading(c.number)))
+        }
+        2 => None,
+        _ => Some(Event::Notice(LeaseNum(c.number), notice_in(c)?)),
     }
 }
 

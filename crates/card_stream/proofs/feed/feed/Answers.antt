@@ -18,7 +18,7 @@ unfolding chunk_next feed_text
 loop-taken-init c =
     let room = length c.args.out.now in
     let all : room - 0 ≡ room = omega arith in
-    record { known = c.is_sound-is_known_sound.ensures; bound = omega arith; room = omega arith; reader = refl; written = refl; out = refl; taken = rw all (zero-add (bytes_taken c.args.reader.now c.args.input.now room)) }
+    record { known = c.known_of-known.ensures; bound = omega arith; room = omega arith; reader = refl; written = refl; out = refl; taken = rw all (zero-add (bytes_taken c.args.reader.now c.args.input.now room)) }
 
 pub loop-taken-preserved : goal.loop-taken-preserved
 loop-taken-preserved c =
@@ -38,7 +38,7 @@ loop-taken-preserved c =
     let rest : bytes_taken l.reader (drop l.taken s) (room - l.written) ≡ k + bytes_taken c.feed_next-next.new.reader (drop (l.taken + k) s) (room - (l.written + w)) =
     rw (drop-drop k l.taken s, part, less) at f.rest in
     record {
-      known = i.known ∙ sym c.feed_next-next.ensures.stays;
+      known = c.feed_next-next.ensures.stays;
       bound = omega (arith, f.taken.1, length-drop l.taken s);
       room = omega (arith, c.feed_next-next.auto.out, f.upper_bound);
       reader = f.reader_after ∙ ap (λ (x : CardReader). chunk_next x behind) i.reader ∙ reading.more r s l.taken k;

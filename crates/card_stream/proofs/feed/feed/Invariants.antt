@@ -2,7 +2,7 @@
 use Rattle.std.proofs.Common.{◌≡◌, ◌≤◌, ◌+◌, ◌-◌, length, take, drop}
 use Rattle.card_text.specs.Lines.{laid}
 use Rattle.card_stream.specs.Reader.{chunk_next}
-use Rattle.card_stream.specs.Sessions.{sound}
+use Rattle.card_stream.specs.Sessions.{Knows}
 use Rattle.card_stream.specs.Feed.{feed_text, bytes_taken}
 use Rattle.card_stream.proofs.feed.feed.Given as goal
 
@@ -10,7 +10,7 @@ abbrev pub invariant-loop-taken : goal.invariant-loop-taken
 invariant-loop-taken l =
     let before = take l.taken l.input in
     record {
-      known : l.is_known_sound ≡ sound l.reader.session;
+      known : Knows l.known l.reader.session;
       bound : l.taken ≤ length l.input;
       room : l.written ≤ length l.out;
       reader : l.reader ≡ chunk_next l.initial.reader before;
