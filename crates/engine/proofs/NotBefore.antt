@@ -27,7 +27,7 @@ use Rattle.lease.specs.Calls.{advance_to, fired_by, quiet_end, quiet_fires}
 use Rattle.lease.specs.Notices.{handled_at, pass_on, on_peer, handle_new_grants, handle_do_revoke, handle_clear_held, handle_notice, raised_to, numbered, outdated, acted_under, accepted_of}
 use Rattle.peer_rows.specs.Due.{row_due, rows_due}
 use Rattle.peer_rows.specs.declared.pass.Marks.{Marks}
-use Rattle.peer_rows.specs.Marks.{marks_of}
+use Rattle.peer_rows.specs.Marks.{marks_of, either}
 use Rattle.peer_rows.proofs.Sides.{neither}
 use Rattle.peer_rows.proofs.NotBefore.{rows_from, rows_lower, rows_passed, rows_changed, none_marked, rows_stay}
 use Rattle.engine.specs.Due.{NotBefore, due_noticed, nothing_fired}
@@ -147,7 +147,7 @@ nothing b m to v l h =
     let first : (pass_on m (P.Advance to)).first ≡ bitmap_of m.population 0 = ap (λ (x : Marks). x.first) e in
     let second : (pass_on m (P.Advance to)).second ≡ bitmap_of m.population 0 = ap (λ (x : Marks). x.second) e in
     let none : Marks = record { first = bitmap_of m.population 0; second = bitmap_of m.population 0; count = 0 } in
-    rw (first, second, neither m.peers none (bitmap_of m.population 0) refl refl) refl
+    rw (first, second, neither m.peers none (either none) refl refl) refl
 
 pub advance_few : (m : Manager) (to : Reading) → record_valid m ≡ true → (advance_to m to).manager.population ≤ capacity
 unfolding advance_to

@@ -6,7 +6,7 @@ ghost use Rattle.std.specs.Prelude.{◌≡◌, ◌≤◌, ◌<◌, Ok};
 ghost use Rattle.lease.specs.Bitmaps.{capacity};
 ghost use Rattle.lease.specs.Calls.{quiet_fires, quiet_at, is_quiet, quiet_end, assume_unknown_grants, advance_to, attempt_refresh, clock_of, set_drift};
 ghost use Rattle.engine.specs.Fits.{NearRows};
-ghost use Rattle.refusals.specs.Fits.{ManagerFits};
+ghost use Rattle.refusals.specs.Fits.{LimitsFit};
 
 use drift::floats::quotient;
 use lease::{Advanced, Bitmap, Clock, LeaseAction, LeaseNum, Line, Manager, Reading, ReplicaId};
@@ -52,7 +52,7 @@ pub fn quiet_end(fired: bool, own: ReplicaId, population: usize) -> Option<Line>
 /// 8.4).
 #[tactic(auto, unfolding(lease::specs::Calls::assume_unknown_grants))]
 pub fn start_quiet(m: &mut Manager)
-    requires { ManagerFits m.old }
+    requires { LimitsFit m.old }
     ensures { m.new ≡ assume_unknown_grants m.old }
 {
     let by = drifted_ns(m.clock, 2 * m.expire_timeout);
@@ -64,7 +64,7 @@ pub fn start_quiet(m: &mut Manager)
 /// with nothing that is due are only read.
 #[tactic(auto, unfolding(lease::specs::Calls::advance_to, lease::specs::Calls::fired_by, lease::specs::Passes::pass_over))]
 pub fn advance_to(m: &mut Manager, to: Reading) -> Advanced
-    requires { ManagerFits m.old }
+    requires { LimitsFit m.old }
     ensures answer { (advance_to m.old to).outcome ≡ Ok result }
     ensures record_after { m.new ≡ (advance_to m.old to).manager }
 {
@@ -86,7 +86,7 @@ pub fn advance_to(m: &mut Manager, to: Reading) -> Advanced
 /// by T, drifted once for all of them.
 #[tactic(auto, unfolding(lease::specs::Calls::attempt_refresh, crate::specs::Fits::NearRows))]
 pub fn refresh(m: &mut Manager, set: Option<Bitmap>) -> Bitmap
-    requires fits { ManagerFits m.old }
+    requires fits { LimitsFit m.old }
     requires near { NearRows m.old }
     ensures answer { (attempt_refresh m.old set).outcome ≡ Ok result }
     ensures record_after { m.new ≡ (attempt_refresh m.old set).manager }

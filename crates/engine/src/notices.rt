@@ -3,7 +3,7 @@
 
 ghost use Rattle.std.specs.Prelude.{◌≡◌, ◌<◌};
 ghost use Rattle.lease.specs.Notices.{term_of, on_peer, handle_new_grants, handle_do_revoke, handle_clear_held, handle_notice, raised_to, accepted_of};
-ghost use Rattle.refusals.specs.Fits.{ManagerFits};
+ghost use Rattle.refusals.specs.Fits.{LimitsFit, ManagerFits};
 ghost use Rattle.engine.specs.Fits.{PeerBelow};
 ghost use Rattle.engine.specs.Turns.{turn_of};
 
@@ -31,7 +31,7 @@ fn term_of(m: &Manager) -> Term
 /// A notice about one peer (rules 7.7 to 7.13): that peer's row alone changes. Its actions are lent.
 #[tactic(auto, unfolding(lease::specs::Notices::on_peer))]
 pub fn on_peer(m: &mut Manager, id: ReplicaId, notice: PeerNotice, actions: &mut Actions)
-    requires fits { ManagerFits m.old }
+    requires fits { LimitsFit m.old }
     requires below { id < m.old.population }
     ensures actions_after { actions.new ≡ (on_peer m.old id notice).actions }
     ensures record_after { m.new ≡ (on_peer m.old id notice).manager }
@@ -44,7 +44,7 @@ pub fn on_peer(m: &mut Manager, id: ReplicaId, notice: PeerNotice, actions: &mut
 /// there are none.
 #[tactic(auto, unfolding(lease::specs::Notices::handle_new_grants))]
 pub fn handle_new_grants(m: &mut Manager, set: Option<Bitmap>, bar: Option<Bar>) -> Actions
-    requires { ManagerFits m.old }
+    requires { LimitsFit m.old }
     ensures actions { result ≡ (handle_new_grants m.old set bar).actions }
     ensures record_after { m.new ≡ (handle_new_grants m.old set bar).manager }
 {
@@ -57,7 +57,7 @@ pub fn handle_new_grants(m: &mut Manager, set: Option<Bitmap>, bar: Option<Bar>)
 /// revoking, if there are any.
 #[tactic(auto, unfolding(lease::specs::Notices::handle_do_revoke))]
 pub fn handle_do_revoke(m: &mut Manager, set: Option<Bitmap>) -> Actions
-    requires { ManagerFits m.old }
+    requires { LimitsFit m.old }
     ensures actions { result ≡ (handle_do_revoke m.old set).actions }
     ensures record_after { m.new ≡ (handle_do_revoke m.old set).manager }
 {
@@ -73,7 +73,7 @@ pub fn handle_do_revoke(m: &mut Manager, set: Option<Bitmap>) -> Actions
 /// ClearHeld (rule 7.6): LeaseCleared always.
 #[tactic(auto, unfolding(lease::specs::Notices::handle_clear_held))]
 pub fn handle_clear_held(m: &mut Manager) -> Actions
-    requires { ManagerFits m.old }
+    requires { LimitsFit m.old }
     ensures actions { result ≡ (handle_clear_held m.old).actions }
     ensures record_after { m.new ≡ (handle_clear_held m.old).manager }
 {
@@ -86,7 +86,7 @@ pub fn handle_clear_held(m: &mut Manager) -> Actions
 // bytes, and stay where they are written.
 #[tactic(auto, unfolding(lease::specs::Notices::handle_notice))]
 fn handle_notice(m: &mut Manager, notice: LeaseNotice, actions: &mut Actions)
-    requires fits { ManagerFits m.old }
+    requires fits { LimitsFit m.old }
     requires below { PeerBelow m.old.population notice }
     ensures actions_after { actions.new ≡ (handle_notice m.old notice).actions }
     ensures record_after { m.new ≡ (handle_notice m.old notice).manager }

@@ -1,6 +1,6 @@
 -- Rows that have no timer that is due stay as they are. Assumes nothing.
 use Rattle.std.specs.Prelude.{Option, None, Some}
-use Prim.Native.Nat.{ℕ, zero, suc, ◌<◌}
+use Prim.Native.Nat.{ℕ, zero, suc, ◌<◌, max}
 use mathlib.Core.Path.{◌≡◌, refl, ap}
 use mathlib.Core.Bool.{Bool, true, false, cond, ◌||◌, true≢false}
 use mathlib.Core.List.{List, [], ◌∷◌}
@@ -76,7 +76,9 @@ module _ (to : Reading) (own n : ℕ) (rows : List Peer) (due : Marks) (sets : d
   -- who is in one of the sets
   in_either : (i : ℕ) → i < n → is_one ids i ≡ member (bit_or (ids_where p n) (ids_where q n)) i
   unfolding pass_over
-  in_either i h = ap (λ (b : Bitmap). is_one b i) (both ∙ ap either sets) ∙ rw (lt-ltb i n h) refl
+  in_either i h =
+      let below : i < max n n = omega arith in
+      ap (λ (b : Bitmap). is_one b i) (both ∙ ap either sets) ∙ rw (lt-ltb i (max n n) below) refl
 
   -- the row of an id in neither set
   pub undue : (i : ℕ) → i < n → is_one ids i ≡ false → row_after (P.Advance to) own i (row_at rows i) ≡ row_at rows i

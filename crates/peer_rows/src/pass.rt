@@ -24,13 +24,13 @@ pub struct Marks {
 }
 
 impl Marks {
-    /// The ids of either set.
+    /// Both sets as one, of the larger of their sizes.
     pub fn either(&self) -> Bitmap
         ensures { result ≡ either self.now }
     {
         Bitmap {
+            size: self.first.size.max(self.second.size),
             bits: self.first.bits | self.second.bits,
-            ..self.first
         }
     }
 }

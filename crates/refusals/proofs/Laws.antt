@@ -12,7 +12,7 @@ use Rattle.lease.specs.Rows.{empty_row}
 use Rattle.lease.specs.declared.Manager.{Manager}
 use Rattle.lease.specs.RecordCheck.{row_valid_at, rows_valid, limits_valid, record_valid}
 use Rattle.lease.proofs.RecordCheck.{own-row}
-use Rattle.refusals.specs.Fits.{ManagerFits}
+use Rattle.refusals.specs.Fits.{LimitsFit, ManagerFits}
 
 pub fits : (m : Manager) → record_valid m ≡ true → ManagerFits m
 unfolding record_valid limits_valid
@@ -24,6 +24,9 @@ fits m e =
       own = grind (arith, e);
       own_row = own-row m e;
     }
+
+pub limits : (m : Manager) → ManagerFits m → LimitsFit m
+limits m k = record { reading = k.reading; timeout = k.timeout; few = k.few; own = k.own }
 
 -- of the first k rows
 all_below : (own n : ℕ) (now : Reading) (rows : List Peer) (k : ℕ) → k ≤ length rows → list_all (λ p. row_valid_at own n now p.0 p.1) (take k (enumerate_from 0 rows)) ≡ rows_valid own n now rows k

@@ -1,7 +1,7 @@
 -- A valid record fits and stays valid.
 use Rattle.std.proofs.Common.{rules, ◌≡◌, arith}
 use Rattle.std.specs.Prelude.{Ok}
-use Rattle.refusals.proofs.Laws.{fits}
+use Rattle.refusals.proofs.Laws.{fits, limits}
 use Rattle.lease.specs.Refusals.{advance_refusal}
 use Rattle.engine.proofs.Laws.{advance_keeps}
 use Rattle.engine.proofs.NotBefore.{advance_few, looked}
@@ -11,7 +11,7 @@ pub overflow_cast-m : goal.overflow_cast-m
 overflow_cast-m c = let few = (fits c.args.m.now c.requires.valid).few in omega arith
 
 pub advance_to-advanced-requires : goal.advance_to-advanced-requires
-advance_to-advanced-requires c = fits c.args.m.now c.requires.valid
+advance_to-advanced-requires c = limits c.args.m.now (fits c.args.m.now c.requires.valid)
 
 pub rows_due-requires : goal.rows_due-requires
 rows_due-requires c = rw c.advance_to-advanced.ensures.record_after (advance_few c.args.m.now c.args.to c.requires.valid)

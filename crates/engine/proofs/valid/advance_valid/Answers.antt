@@ -1,13 +1,13 @@
 -- A valid record fits, and an advance keeps it valid.
 use Rattle.std.proofs.Common.{rules, ◌≡◌}
-use Rattle.refusals.proofs.Laws.{fits}
+use Rattle.refusals.proofs.Laws.{fits, limits}
 use Rattle.std.specs.Prelude.{Ok}
 use Rattle.lease.specs.Refusals.{advance_refusal}
 use Rattle.engine.proofs.Laws.{advance_keeps}
 use Rattle.engine.proofs.valid.advance_valid.Goals as goal
 
 pub advance_to-requires : goal.advance_to-requires
-advance_to-requires c = fits c.args.m.now c.requires
+advance_to-requires c = limits c.args.m.now (fits c.args.m.now c.requires)
 
 pub returns-clause-valid : goal.returns-clause-valid
 returns-clause-valid c =
