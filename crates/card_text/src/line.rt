@@ -7,12 +7,12 @@ ghost use Rattle.std.specs.Bool.{OnTrue};
 ghost use Rattle.std.proofs.lemmas.List.Edits.{sets};
 ghost use Rattle.lease.specs.Fired.{listed_in};
 ghost use Rattle.lease.specs.Notices.{numbered};
-ghost use Rattle.card_text.specs.Lines.{line_text, text_of, laid, timer_line, timer_lines, notice_lines, quiet_lines, outcome_text, line_bytes, two_lines, notice_bytes, timers_bytes, most_bytes, line_fits, can_write_line, line_read, lines_in};
+ghost use Rattle.card_text.specs.Lines.{line_text, text_of, laid, timer_line, timer_lines, notice_lines, quiet_lines, outcome_text, line_bytes, two_lines, notice_bytes, timers_bytes, most_bytes, room_of, line_fits, can_write_line, line_read, lines_in};
 ghost use Rattle.card_text.specs.Claims.{WideLine};
 
 use crate::columns::{number_of, put_digits};
-use lease::{Actions, FiredTimer, FiredTimers, LeaseAction, LeaseNum, Line, TIMERS};
-use wire::events::CardRefusal;
+use lease::{Actions, FiredTimer, FiredTimers, LeaseAction, LeaseNum, Line, Lines, TIMERS};
+use wire::events::{CardGiven, CardRefusal};
 use wire::lines::{LineC, line_c, line_of};
 
 // How long a line is, in bytes, without its newline.
@@ -141,6 +141,43 @@ pub fn put_fired_end(out: &mut [u8], num: LeaseNum, fired: &FiredTimers, end: Op
 {
     let fired_end = put_fired(out, num.0, fired);
     fired_end + put_quiet_end(&mut out[fired_end..], end)
+}
+
+// The lines of a notice, in order.
+#[tactic(auto, using(crate::proofs::LineText::text_of_one, crate::proofs::LineText::first_laid), unfolding(crate::specs::Lines::notice_lines, crate::specs::Lines::text_of))]
+fn put_notice(out: &mut [u8], lines: Lines) -> usize
+    requires { notice_bytes ≤ length out.old }
+    ensures value { result ≡ length (text_of (notice_lines lines)) }
+    ensures out_after { out.new ≡ laid (text_of (notice_lines lines)) out.old }
+{
+    match lines {
+        Lines::None => 0,
+        Lines::One(a) => put_line(out, line_of(a)),
+        Lines::Two(a, b) => {
+            let (first, second) = out.split_at_mut(LINE);
+            put_line(first, line_of(a)) + put_line(second, line_of(b))
+        }
+        Lines::Three(a, b, c) => {
+            let (first, behind) = out.split_at_mut(LINE);
+            let (second, third) = behind.split_at_mut(LINE);
+            put_line(first, line_of(a)) + put_line(second, line_of(b)) + put_line(third, line_of(c))
+        }
+    }
+}
+
+/// Puts the lines of what the card of that number gives, whatever that is (rule 14.4).
+#[tactic(auto, unfolding(crate::specs::Lines::room_of, crate::specs::Lines::outcome_lines, crate::specs::Lines::text_of))]
+pub fn put_outcome(out: &mut [u8], card: u64, outcome: Result<CardGiven, CardRefusal>) -> usize
+    requires { room_of outcome ≤ length out.old }
+    ensures value { result ≡ length (outcome_text card outcome) }
+    ensures out_after { out.new ≡ laid (outcome_text card outcome) out.old }
+{
+    match outcome {
+        Err(refusal) => put_refused(out, card, refusal),
+        Ok(CardGiven::Done) => 0,
+        Ok(CardGiven::Acted(lines)) => put_notice(out, lines),
+        Ok(CardGiven::Fired(num, fired, end)) => put_fired_end(out, num, &fired, end),
+    }
 }
 
 // Whether the numbers have room in their columns.

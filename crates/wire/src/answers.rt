@@ -211,6 +211,60 @@ impl AnswerC {
     }
 }
 
+// ---- each as a value: an answer that is begun here and handed back
+
+/// Refused, with no line and no timer.
+pub fn refused_answer(refusal: CallRefusal) -> AnswerC
+    ensures { result ≡ refused_answer (call_refusal_number refusal) }
+{
+    let mut answer = AnswerC::no_lines();
+    answer.refuse(refusal);
+    answer
+}
+
+/// Accepted, with no line.
+pub fn no_lines() -> AnswerC
+    ensures { result ≡ no_lines }
+{
+    AnswerC::no_lines()
+}
+
+/// Accepted, with one line.
+pub fn one_line(line: LineC) -> AnswerC
+    ensures { result ≡ one_line line }
+{
+    let mut answer = AnswerC::no_lines();
+    answer.put_line(line);
+    answer
+}
+
+/// The answer to a notice: its lines in order (rule 7.14).
+pub fn notice_answer(outcome: Result<Lines, Refusal>) -> AnswerC
+    ensures { result ≡ notice_answer outcome }
+{
+    let mut answer = AnswerC::no_lines();
+    answer.put_notice(outcome);
+    answer
+}
+
+/// The answer to advance: what fired, the quiet-end line behind it, and the timers in order (rules 8.1 to 8.4).
+pub fn advance_answer(outcome: Result<Advanced, Refusal>) -> AnswerC
+    ensures { result ≡ advance_answer outcome }
+{
+    let mut answer = AnswerC::no_lines();
+    answer.put_advance(outcome);
+    answer
+}
+
+/// The answer to set-up, quiet start and a drift setting, which say nothing but whether they are refused.
+pub fn plain_answer(outcome: Result<(), Refusal>) -> AnswerC
+    ensures { result ≡ plain_answer outcome }
+{
+    let mut answer = AnswerC::no_lines();
+    answer.put_plain(outcome);
+    answer
+}
+
 /// The answer to refresh, grant set and lease set: one set.
 pub fn set_answer(outcome: Result<Bitmap, Refusal>) -> AnswerC
     ensures { result ≡ set_answer outcome }
@@ -226,5 +280,14 @@ pub fn count_answer(outcome: Result<u64, Refusal>) -> AnswerC
 {
     let mut answer = AnswerC::no_lines();
     answer.put_count(outcome);
+    answer
+}
+
+/// The answer to time left, in ms.
+pub fn time_left_answer(outcome: Result<Option<u64>, Refusal>) -> AnswerC
+    ensures { result ≡ time_left_answer outcome }
+{
+    let mut answer = AnswerC::no_lines();
+    answer.put_time_left(outcome);
     answer
 }
