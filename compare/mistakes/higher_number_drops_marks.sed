@@ -1,2 +1,2 @@
-# flat_engine::rows: a higher number clears the marks (rule 7.2)
-s/^        drop_sent(row);/& row.refresh_mark = false;/
+# flat_engine::clearing: a higher number clears the marks (rule 7.2)
+s/^    drop_sent(&mut row);/& row.refresh_mark = false;/

@@ -1,2 +1,2 @@
-# flat_engine::rows: a higher number leaves the held promises (rule 7.2)
-s/^        drop_held(row);/        row.guard_held = None;/
+# flat_engine::clearing: a higher number leaves the held promises (rule 7.2)
+s/^    drop_held(&mut row);/    row.guard_held = None;/

@@ -18,6 +18,7 @@ ghost use Rattle.wire.specs.Form.{is_record};
 
 use crate::calls::{advance_c, drift_c, notice_c, quiet_c, refresh_c, setup_c};
 use crate::questions::question_c;
+use crate::rules::CalledC;
 use flat_record::sound::is_sound;
 use lease::Refusal;
 use wire::answers::{AnswerC, CallRefusal};
@@ -57,7 +58,7 @@ fn record_c(f: &mut ManagerC, c: CallC, answer: &mut AnswerC)
 
 // Any call: what is no call is refused with 22; then, but for set-up, what is no manager's record with 15; then the rules decide (rule 13.5).
 #[tactic(auto, unfolding(crate::specs::Calls::call_of))]
-fn call(f: &mut ManagerC, c: CallC, answer: &mut AnswerC)
+fn call_in_place(f: &mut ManagerC, c: CallC, answer: &mut AnswerC)
     requires { answer.old ≡ no_lines }
     ensures answer { answer.new ≡ (call_of f.old c).answer }
     ensures left { f.new ≡ (call_of f.old c).manager }
@@ -84,6 +85,15 @@ pub fn biasflint_call(m: &mut ManagerC, card: CallC) -> AnswerC
     ensures number { result.refused ≡ card_number m.old card }
 {
     let mut answer = AnswerC::no_lines();
-    call(m, card, &mut answer);
+    call_in_place(m, card, &mut answer);
     answer
+}
+
+/// Any call, by value: the answer, and the record as the call leaves it, which is the one that went in where the call is refused.
+pub fn call(f: ManagerC, c: CallC) -> CalledC
+    ensures { result ≡ call_of f c }
+{
+    let mut manager = f;
+    let answer = biasflint_call(&mut manager, c);
+    CalledC { answer, manager }
 }

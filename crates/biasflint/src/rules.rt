@@ -4,7 +4,7 @@ use wire::answers::AnswerC;
 use wire::flat::ManagerC;
 
 /// The answer, and the record that the host finds.
-#[derive(Drop)]
+#[derive(Clone, Copy)]
 pub struct CalledC {
     pub answer: AnswerC,
     pub manager: ManagerC,

@@ -24,7 +24,8 @@ use Rattle.lease.specs.Timers.{drifted}
 use Rattle.lease.specs.Calls.{quiet_at, clock_of, assume_unknown_grants, advance_to, set_drift}
 use Rattle.peer_rows.specs.Rules.{advance_pass}
 use Rattle.refusals.specs.Fits.{ManagerFits}
-use Rattle.peer_rows.proofs.ClearingClaims.{done}
+use Rattle.peer_rows.specs.Clearing.{ClearedBelow}
+use Rattle.peer_rows.proofs.ClearingClaims.{done, only_rules}
 use Rattle.flat_record.specs.Sound.{blank_row}
 use Rattle.flat_engine.specs.FlatRows.{higher_number_pass, flat_at, FlatFits}
 use Rattle.lease.proofs.Tests.{snd-of}
@@ -123,6 +124,12 @@ row_put f e i p =
     ap (λ (l : List PeerC). with_rows f l) (sym rows) ∙ rows_put f e (set (map peer_of f.peers) i p)
 
 -- ---- a higher number
+
+-- rows that are cleared below the population are those that the rules' pass leaves
+pub cleared_put : (f : ManagerC) → FlatFits f → (rows : List PeerC) → ClearedBelow f.population (map peer_of f.peers) (map peer_of rows) → list_all is_row rows ≡ true
+    → rows ≡ map flat_row (pass_over higher_number_pass f.me f.population (map peer_of f.peers)).peers
+unfolding manager_of
+cleared_put f k rows c form = sym (rows-there rows form) ∙ ap (map flat_row) (only_rules f.me f.population (map peer_of f.peers) (map peer_of rows) k.fits.own_row c)
 
 pub raise_put : (f : ManagerC) → FlatFits f → (num : LeaseNum) (rows : List PeerC)
     → rows ≡ map flat_row (pass_over higher_number_pass f.me f.population (map peer_of f.peers)).peers → with_num_rows f num.0 rows ≡ flat_of (raised_to (manager_of f) num)

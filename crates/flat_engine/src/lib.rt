@@ -2,6 +2,7 @@
 #![tactic(auto)]
 
 pub mod calls;
+pub mod clearing;
 pub mod clock;
 pub mod fired;
 pub mod notices;

@@ -9,7 +9,8 @@ ghost use Rattle.wire.specs.Flat.{flat_of};
 ghost use Rattle.wire.specs.FromFlat.{manager_of};
 ghost use Rattle.flat_engine.specs.FlatRows.{FlatFits};
 
-use crate::rows::{HigherNumber, flat_pass_over};
+use crate::clearing::flat_clear_below;
+use crate::rows::flat_pass_over;
 use engine::lines::{number_actions, reply_outdated};
 use flat_record::from_flat::{clock_by_flag, peer_of};
 use flat_record::to_flat::flat_row;
@@ -114,8 +115,8 @@ fn raise(f: &mut ManagerC, num: LeaseNum)
     ensures manager { manager_of f.new ≡ raised_to (manager_of f.old) num }
     ensures fits { FlatFits f.new }
 {
-    let (me, n) = (f.me, f.population);
-    flat_pass_over(&mut f.peers, me, n, &HigherNumber);
+    let n = f.population;
+    flat_clear_below(&mut f.peers, n);
     f.active_num = num.0;
 }
 

@@ -5,37 +5,18 @@ ghost use Rattle.std.specs.List.{list_all};
 ghost use Rattle.lease.specs.Bitmaps.{capacity};
 ghost use Rattle.lease.specs.Passes.{pass_over, visit_of};
 ghost use Rattle.lease.specs.Rows.{row_at};
-ghost use Rattle.peer_rows.specs.Fits.{AnyRow};
 ghost use Rattle.peer_rows.specs.Marks.{marks_of};
 ghost use Rattle.wire.specs.Flat.{flat_row};
 ghost use Rattle.wire.specs.FromFlat.{peer_of};
 ghost use Rattle.wire.specs.Form.{is_row};
-ghost use Rattle.flat_engine.specs.FlatRows.{higher_number_pass};
 
 use bitmap::{none, with_id};
 use flat_record::from_flat::peer_of;
 use flat_record::to_flat::flat_row;
-use lease::{Peer, ROWS, ReplicaId};
+use lease::{ROWS, ReplicaId};
 use peer_rows::each_row::{InSets, Look, Rule};
-use peer_rows::entries::{drop_held, drop_sent};
 use peer_rows::pass::{Marks, look_at, visit_at};
 use wire::flat::PeerC;
-
-/// A higher number (rule 7.2): all four entries go, the mark stays.
-#[derive(Clone, Copy)]
-pub struct HigherNumber;
-
-impl Rule for HigherNumber {
-    ghost pass = { λ r. higher_number_pass };
-
-    ghost fits = { λ r. AnyRow };
-
-    fn visit(&self, i: usize, row: &mut Peer) -> InSets {
-        drop_sent(row);
-        drop_held(row);
-        InSets::NONE
-    }
-}
 
 // The rule at the id i: the own id's row stays.
 fn visit_flat<R: Rule>(rule: &R, me: ReplicaId, i: usize, p: &mut PeerC) -> InSets

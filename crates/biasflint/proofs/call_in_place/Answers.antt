@@ -8,7 +8,7 @@ use Rattle.wire.specs.Cards.{is_call}
 use Rattle.biasflint.specs.Calls.{kept}
 use Rattle.biasflint.specs.declared.rules.CalledC.{CalledC}
 use Rattle.biasflint.proofs.CallLaws.{no-call-is, no-record-is}
-use Rattle.biasflint.proofs.call.Goals as goal
+use Rattle.biasflint.proofs.call_in_place.Goals as goal
 
 pub returns-then-not-is_call-clause-answer : goal.returns-then-not-is_call-clause-answer
 unfolding kept
