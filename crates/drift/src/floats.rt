@@ -1,10 +1,8 @@
 // The float arithmetic of clock drift: the rate and the quotient of a setting, seconds and back to ns (rules 3.3 to 3.5).
 
-ghost use Rattle.std.specs.Prelude.{◌≡◌, ◌*◌, ◌^◌, ◌≤◌, ◌<◌};
+ghost use Rattle.std.specs.Prelude.{◌≡◌, cond, eqb, ◌%◌, ◌*◌, ◌^◌, ◌≤◌, ◌<◌};
 ghost use Rattle.std.specs.Float.Ieee.Nearest.{closest};
 ghost use Rattle.drift.specs.Drift.{nanos_per_sec, rate_of, quotient_at, quotient_of, seconds_of, ns_of};
-
-use std::cmp::Ordering;
 
 const NANOS_PER_SEC: u64 = 1_000_000_000;
 
@@ -48,9 +46,17 @@ pub fn in_seconds(ns: u64) -> f64
     (ns / NANOS_PER_SEC) as f64 + (ns % NANOS_PER_SEC) as f64 / 1_000_000_000.0
 }
 
-// mantissa * 10 ^ 9 / 2 ^ places, to nearest, ties to even. The product does not fit 64 bits. A shift
-// and a mask, since `/` and `%` of a `u128` take several times as long.
-#[tactic(auto, using(crate::proofs::Nearest::whole_lt))]
+// What rounding adds beside half a unit less one, where the rest is half a unit and what lies below it is `low`: ties go to even.
+#[inline(always)]
+fn carry(low: u64, whole: u64) -> u64
+    ensures { result ≡ cond (eqb low 0) (whole % 2) 1 }
+{
+    if low == 0 { whole % 2 } else { 1 }
+}
+
+// mantissa * 10 ^ 9 / 2 ^ places, to nearest, ties to even: half a unit less one is added, and the carry, and the rest is cut off. The
+// product does not fit 64 bits, and a shift of 128 bits by a number takes several times as long as one of 64: of its low 32 bits it counts
+// only whether there are any.
 fn nearest_ns(mantissa: u64, places: u64) -> u64
     requires mantissa_bound { mantissa < 2 ^ 53 }
     requires le_places { 33 ≤ places }
@@ -58,14 +64,11 @@ fn nearest_ns(mantissa: u64, places: u64) -> u64
     ensures { result ≡ closest (mantissa * nanos_per_sec) (2 ^ places) }
 {
     let product = u128::from(mantissa) * 1_000_000_000;
-    let unit = 1_u128 << places;
-    let whole = (product >> places) as u64;
-    let part = product & (unit - 1);
-    match (part * 2).cmp(&unit) {
-        Ordering::Less => whole,
-        Ordering::Equal => whole + whole % 2,
-        Ordering::Greater => whole + 1,
-    }
+    let high = (product / 0x1_0000_0000) as u64;
+    let low = (product % 0x1_0000_0000) as u64;
+    let half = 1_u64 << (places - 33);
+    let whole = high >> (places - 32);
+    (high + (half - 1) + carry(low, whole)) >> (places - 32)
 }
 
 /// p seconds in ns, to nearest, ties to even (rule 3.5), at most 2 ^ 20 s. What is not above 0, a NaN too, gives 0.

@@ -13,7 +13,7 @@ use bitmap::{Bitmap, BitmapError};
 pub struct SetC {
     /// 0, or the refusal's number (rules 10.10 to 10.13).
     pub refused: u8,
-    //// `bitmap::calls::size`: the set's size (rule 2.8).
+    /// `bitmap::calls::size`: the set's size (rule 2.8).
     pub size: u8,
     /// Its number: id i as 2 to the i.
     pub bits: u64,
