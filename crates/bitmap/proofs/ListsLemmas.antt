@@ -16,9 +16,10 @@ use Rattle.std.proofs.lemmas.List.Elements.{filter-append}
 use Rattle.std.proofs.lemmas.List.FromFn.{map-range_with_len_more, length-enumerate_from, get_or-enumerate_from}
 use Rattle.std.proofs.lemmas.List.Folds.{list_any-append}
 use Rattle.bitmap.specs.Sets.{member, one, count_where}
-use Rattle.bitmap.specs.Bitmaps.{number, is_one}
+use Rattle.bitmap.specs.Bitmaps.{number, is_one, bitmap_of, bitmap_where}
 use Rattle.bitmap.specs.Operations.{listed, ids_below}
 use Rattle.bitmap.specs.Claims.{ListedCount, ListedOnes, ListedAscending}
+use Rattle.bitmap.proofs.SetsLemmas.{ids_where-same}
 
 -- ---- the ids below n that a test takes, as a list
 -- as many as the count says
@@ -97,6 +98,10 @@ listed-ids_below p (suc n) i = rw (listed-if (p n) (ids_below p n) n i, listed-i
     go : (x : Bool) → eqb i n ≡ x → (p n && eqb i n || ltb i n && p i) ≡ (ltb i (suc n) && p i)
     go true e = rw (eqb-true i n e, eq-eqb n n refl, le-ltb n n (omega arith), lt-ltb n (suc n) (omega arith)) (at (p n))
     go false e = rw (e, next (ltb i n) refl (eqb-false i n e)) (off (p n) (ltb i n && p i))
+
+-- the set of the ids of the ones is the set
+pub of-its-list : (p : ℕ → Bool) (n : ℕ) → bitmap_where n (listed (ids_below p n)) ≡ bitmap_where n p
+of-its-list p n = ap (bitmap_of n) (ids_where-same (listed (ids_below p n)) p n (λ i h. listed-ids_below p n i ∙ rw (lt-ltb i n h)))
 
 -- what stands at a place of a list that one id may have been added to: an element of the list, or the id
 at-end : (x : Bool) (ids : List ℕ) (id k : ℕ) → k < length (ids ++ cond x (id ∷ []) []) → (k < length ids) ⊎ ((k ≡ length ids) × (get_or (ids ++ cond x (id ∷ []) []) k 0 ≡ id))

@@ -1,14 +1,14 @@
--- Sets of ids as numbers and counts of ids: as the ids are gone through, and for any number n of ids membership, equality, complement and count. Assumes nothing.
+-- Sets of ids as numbers and counts of ids: as the ids are gone through, and for any number n of ids membership, equality, insertion, union, complement and count. Assumes nothing.
 use Prim.Native.Nat.{ℕ, zero, suc, ◌+◌, ◌^◌, ◌<◌, ◌≤◌, ◌*◌, ◌-◌, ◌/◌, ◌%◌}
-use mathlib.Core.Bool.{Bool, true, false, not}
+use mathlib.Core.Bool.{Bool, true, false, not, ◌||◌}
 use mathlib.Core.Path.{◌≡◌, refl, sym, ap, ◌∙◌}
 use native.Mathlib.Nat.{two-pow-succ, add-mul-div_right, add-mul-mod_self_right, div-eq_of_lt, mod-eq_of_lt, mod-one}
 use native.Mathlib.Numerals.{add-one, one-add}
 use native.Mathlib.Omega.{arith}
 use Rattle.bitmap.specs.Sets.{weight, ids_where, one, count_where, member}
-use lib.Dec.{eqb}
+use lib.Dec.{eqb, leb, ltb}
 use lib.Pow.{pow_pos, pow_mono, pow-add, mod-pow-add}
-use borrow.Author.Tests.{eqb-true, eqb-false}
+use borrow.Author.Tests.{eqb-true, eqb-false, eq-eqb, ne_eqb, leb-true, leb-false, ltb-true, ltb-false}
 
 -- ---- one id more
 pub ids_where-more : (p : ℕ → Bool) (n : ℕ) → ids_where p n + weight (p n) n ≡ ids_where p (n + 1)
@@ -45,6 +45,10 @@ weight-one false n = omega arith
 -- a number below 2 ^ n has no id at or above n
 pub member-beyond : (s n i : ℕ) → s < 2 ^ n → n ≤ i → member s i ≡ false
 member-beyond s n i l h = let m = pow_mono h in let less : s < 2 ^ i = omega arith in rw (div-eq_of_lt less)
+
+-- at or above n nothing is in it
+pub member-above : (p : ℕ → Bool) (n i : ℕ) → n ≤ i → member (ids_where p n) i ≡ false
+member-above p n i h = member-beyond (ids_where p n) n i (ids_where-lt p n) h
 
 -- below n, what the test says
 pub member_below : (p : ℕ → Bool) (n i : ℕ) → i < n → member (ids_where p n) i ≡ p i
@@ -89,11 +93,27 @@ unfolding count_where
 count_where-same p q zero e = refl
 count_where-same p q (suc n) e = cc (count_where-same p q n (λ i l. e i (omega arith)), e n (omega arith))
 
+-- more ids, no fewer of them taken
+pub count_where-mono : (p : ℕ → Bool) (i n : ℕ) → i ≤ n → count_where p i ≤ count_where p n
+unfolding count_where
+count_where-mono p i zero h = let e : i ≡ 0 = omega arith in rw e (omega arith)
+count_where-mono p i (suc n) h = go (leb i n) refl (λ l. count_where-mono p i n l)
+  where
+    go : (x : Bool) → leb i n ≡ x → (i ≤ n → count_where p i ≤ count_where p n) → count_where p i ≤ count_where p n + one (p n)
+    go true e ih = let l = ih (leb-true i n e) in omega arith
+    go false e ih = let l = leb-false i n e in let same : i ≡ suc n = omega arith in rw same (omega arith)
+
 -- nothing taken, nothing in it
 pub ids_where-empty : (p : ℕ → Bool) (n : ℕ) → ((i : ℕ) → i < n → p i ≡ false) → ids_where p n ≡ 0
 unfolding ids_where
 ids_where-empty p zero e = refl
 ids_where-empty p (suc n) e = rw (e n (omega arith), ids_where-empty p n (λ i l. e i (omega arith))) (omega arith)
+
+-- all taken
+pub ids_where-all : (n : ℕ) → ids_where (λ i. true) n + 1 ≡ 2 ^ n
+unfolding ids_where
+ids_where-all zero = refl
+ids_where-all (suc n) = omega (arith, ids_where-all n, two-pow-succ n)
 
 -- none of n ids taken: what a count of 0 says
 pub count_where-none : (p : ℕ → Bool) (n : ℕ) → count_where p n ≡ 0 → (i : ℕ) → i < n → p i ≡ false
@@ -109,7 +129,10 @@ count_where-none p (suc n) e i h = go (eqb i n) refl (count_where-none p n (omeg
     go true e' ih = rw (eqb-true i n e') (zeroed (p n) (omega arith))
     go false e' ih = let ne = eqb-false i n e' in ih (omega (arith, ne))
 
--- the empty set's count is 0
+-- a count of 0 is the empty set, and the empty set's count is 0
+pub count-empty : (p : ℕ → Bool) (n : ℕ) → count_where p n ≡ 0 → ids_where p n ≡ 0
+count-empty p n e = ids_where-empty p n (count_where-none p n e)
+
 pub empty-count : (p : ℕ → Bool) (n : ℕ) → ids_where p n ≡ 0 → count_where p n ≡ 0
 unfolding ids_where count_where
 empty-count p zero e = refl
@@ -118,6 +141,10 @@ empty-count p (suc n) e = rw (empty-count p n (omega arith)) (last (p n) (omega 
     last : (b : Bool) → weight b n ≡ 0 → 0 + one b ≡ 0
     last true e = let l = pow_pos n in absurd (omega arith)
     last false e = refl
+
+-- the count of the number is the count of the ids that its test takes
+pub count_where-member : (p : ℕ → Bool) (n : ℕ) → count_where (member (ids_where p n)) n ≡ count_where p n
+count_where-member p n = count_where-same (member (ids_where p n)) p n (λ i h. member_below p n i h)
 
 -- ---- numbers by their members
 -- the ids below n of a number are what 2 ^ n leaves of it
@@ -137,7 +164,53 @@ ids_where-mod s (suc n) = rw (ids_where-mod s n, weight-one (member s n) n, bit 
 pub ids_where-member : (s n : ℕ) → s < 2 ^ n → ids_where (member s) n ≡ s
 ids_where-member s n h = ids_where-mod s n ∙ mod-eq_of_lt h
 
+-- two numbers below 2 ^ n with the same members are equal
+pub member-same : (s t n : ℕ) → s < 2 ^ n → t < 2 ^ n → ((i : ℕ) → i < n → member s i ≡ member t i) → s ≡ t
+member-same s t n hs ht e = sym (ids_where-member s n hs) ∙ ids_where-same (member s) (member t) n e ∙ ids_where-member t n ht
+
+-- where the test says false at and above n, membership is what the test says everywhere
+pub member-where : (p : ℕ → Bool) (n i : ℕ) → (n ≤ i → p i ≡ false) → member (ids_where p n) i ≡ p i
+member-where p n i none = go (ltb i n) refl
+  where
+    go : (x : Bool) → ltb i n ≡ x → member (ids_where p n) i ≡ p i
+    go true e = member_below p n i (ltb-true i n e)
+    go false e = let h = ltb-false i n e in member-above p n i h ∙ sym (none h)
+
+-- insertion: an id above all that the set has
+pub member-insert : (s i k : ℕ) → s < 2 ^ i → member (s + 2 ^ i) k ≡ (eqb k i || member s k)
+unfolding ids_where
+member-insert s i k h = rw (← sum) (member-where q (suc i) k above)
+  where
+    q : ℕ → Bool
+    q j = eqb j i || member s j
+
+    below : (j : ℕ) → j < i → q j ≡ member s j
+    below j l = rw (ne_eqb j i (λ e. omega arith))
+
+    sum : ids_where q (suc i) ≡ s + 2 ^ i
+    sum = rw (ids_where-same q (member s) i below, ids_where-member s i h, eq-eqb i i refl)
+
+    above : suc i ≤ k → q k ≡ false
+    above l = rw (ne_eqb k i (λ e. omega arith)) (member-beyond s i k h (omega arith))
+
+-- union
+pub member_union : (s t n i : ℕ) → s < 2 ^ n → t < 2 ^ n → member (ids_where (λ k. member s k || member t k) n) i ≡ (member s i || member t i)
+member_union s t n i hs ht = member-where (λ k. member s k || member t k) n i (λ h. rw (member-beyond s n i hs h, member-beyond t n i ht h))
+
 -- ---- complement
+-- complement: of each id below n the other flag, together all n ids
+pub member-not : (s n i : ℕ) → i < n → member (ids_where (λ k. not (member s k)) n) i ≡ not (member s i)
+member-not s n i h = member_below (λ k. not (member s k)) n i h
+
+pub ids_where-not : (p : ℕ → Bool) (n : ℕ) → ids_where p n + ids_where (λ k. not (p k)) n + 1 ≡ 2 ^ n
+unfolding ids_where
+ids_where-not p zero = refl
+ids_where-not p (suc n) = omega (arith, ids_where-not p n, two-pow-succ n, both (p n))
+  where
+    both : (b : Bool) → weight b n + weight (not b) n ≡ 2 ^ n
+    both true = omega arith
+    both false = omega arith
+
 pub count_where-not : (p : ℕ → Bool) (n : ℕ) → count_where p n + count_where (λ k. not (p k)) n ≡ n
 unfolding count_where
 count_where-not p zero = refl

@@ -4,7 +4,8 @@ use Rattle.std.specs.Prelude.{◌≡◌, ◌≤◌, ◌+◌, Result, Err, List, 
 use Rattle.wire.specs.declared.events.Event.{Event}
 use Rattle.wire.specs.declared.events.CardRefusal.{CardRefusal}
 use Rattle.card_stream.specs.declared.session.Session.{Session}
-use Rattle.card_stream.specs.Sessions.{counted, card_given}
+use Rattle.card_text.specs.Cards.{event_read, refused_with}
+use Rattle.card_stream.specs.Sessions.{counted, card_given, card_number}
 use Rattle.card_stream.specs.declared.reader.CardReader.{CardReader}
 use Rattle.card_stream.specs.Reader.{session_of, blank_reader, chunk_next, chunks_next}
 use Rattle.card_text.specs.Lines.{most_bytes}
@@ -13,6 +14,10 @@ use Rattle.card_stream.specs.Feed.{replay_text, feed_text, chunks_text, bytes_ta
 -- A refused card is counted, and changes nothing else (rule 10.31).
 abbrev pub RefusedCardKeeps : Type 0
 RefusedCardKeeps = (s : Session) (read : Result Event CardRefusal) (k : CardRefusal) → (card_given s read).outcome ≡ Err k → (card_given s read).session ≡ counted s
+
+-- The number that a card is refused with, 0 where it is accepted, is told by its line and the record alone (rules 14.3, 10.30).
+abbrev pub CardNumbersTold : Type 0
+CardNumbersTold = (s : Session) (line : List ℕ) → refused_with (card_given s (event_read line)).outcome ≡ card_number s.manager line
 
 -- The bytes of the chunks, one after the other.
 abbrev pub joined : List (List ℕ) → List ℕ

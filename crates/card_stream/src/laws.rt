@@ -1,11 +1,16 @@
 // The laws of sessions, of reading and of printing, each a claim of specs/Claims: the functions of this crate are stated by the same
 // definitions.
 
-ghost use Rattle.card_stream.specs.Claims.{RefusedCardKeeps, ReadInChunks, SessionOfWhole, PrintedInChunks, PrintedOfWhole, TakenWithRoom};
+ghost use Rattle.card_stream.specs.Claims.{RefusedCardKeeps, CardNumbersTold, ReadInChunks, SessionOfWhole, PrintedInChunks, PrintedOfWhole, TakenWithRoom};
 
 /// A refused card is counted, and changes nothing else in the session (rules 10.31, 14.5).
 pub fn refused_card_keeps()
     ensures { RefusedCardKeeps }
+{}
+
+/// The number that a card is refused with, whether `take_card` answers it or a line 20 prints it (rules 14.3, 10.30).
+pub fn cards_have_numbers()
+    ensures { CardNumbersTold }
 {}
 
 /// Where a chunk ends changes nothing: any input, read in any chunks, leaves the session that its cards leave (rule 14.5).

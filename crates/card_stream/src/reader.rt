@@ -19,7 +19,7 @@ pub const MOST_INPUT: usize = 4096;
 pub const NEWLINE: u8 = b'\n';
 
 /// What is kept between two bytes: the line so far, and the session that the cards before it have left.
-#[derive(Drop)]
+#[derive(Clone, Drop)]
 pub struct CardReader {
     pub partial: Partial,
     pub session: Session,

@@ -36,7 +36,7 @@ fn feed_chunk<W: Write>(
     let mut rest = chunk;
     while !rest.is_empty() {
         let fed = feed(reader, rest, out);
-        write_every(to, &out[..fed.written]).context("standard output")?;
+        write_every(to, &out[..fed.written]).context("replay: standard output")?;
         rest = &rest[fed.taken..];
     }
     Ok(())
@@ -50,11 +50,11 @@ fn feed_end<W: Write>(reader: &mut CardReader, out: &mut [u8], to: &mut W) -> Re
     ensures start { AppendsStart (W.contents to.old) (W.contents to.new) (last_text reader.old) }
 {
     let n = finish(reader, out);
-    write_every(to, &out[..n]).context("standard output")
+    write_every(to, &out[..n]).context("replay: standard output")
 }
 
-/// Reads to the end, and writes what all of its bytes print (rule 14.5) and nothing else; where reading or writing fails, says so, and has
-/// written a start of that. A proved loop ends: its turns are counted, up to a number that no run uses up.
+/// Reads to the end, and writes what all of its bytes print (rule 14.5) and nothing else; where reading or writing fails, says so with the
+/// program's name first, and has written a start of that. A proved loop ends: its turns are counted, up to a number that no run uses up.
 pub fn replay_all<R: Read, W: Write>(from: &mut R, to: &mut W) -> Result<()>
     ensures ok { OnOk result (IfSome (R.remaining from.old) (λ input. Appends (W.contents to.old) (W.contents to.new) (replay_text input))) }
     ensures start { IfSome (R.remaining from.old) (λ input. AppendsStart (W.contents to.old) (W.contents to.new) (replay_text input)) }
@@ -64,16 +64,16 @@ pub fn replay_all<R: Read, W: Write>(from: &mut R, to: &mut W) -> Result<()>
     let mut out = [0; ROOM];
     let mut reader = blank_reader();
     for _ in 0..u64::MAX {
-        let n = read_some(from, &mut buf).context("standard input")?;
+        let n = read_some(from, &mut buf).context("replay: standard input")?;
         if n == 0 {
             return feed_end(&mut reader, &mut out, to);
         }
         feed_chunk(&mut reader, &buf[..n], &mut out, to)?;
     }
-    Err(anyhow!("standard input does not end"))
+    Err(anyhow!("replay: standard input does not end"))
 }
 
-/// The program, on standard input and output. Where it fails, it says its name first.
+/// The program, on standard input and output.
 pub fn run_replay(rt: &(impl Input + Print)) -> Result<()> {
-    replay_all(&mut rt.reader(), &mut io::writer(rt)).context("replay")
+    replay_all(&mut rt.reader(), &mut io::writer(rt))
 }

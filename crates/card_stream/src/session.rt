@@ -16,7 +16,7 @@ use refusals::records::is_valid_record;
 use wire::events::{CardGiven, CardRefusal, Event, SetUpCall};
 
 /// What is carried from card to card.
-#[derive(Drop)]
+#[derive(Clone, Drop)]
 pub struct Session {
     /// How many cards were read, refused ones included.
     pub cards: u64,
@@ -25,7 +25,7 @@ pub struct Session {
 }
 
 /// What a card gives, and the session after it.
-#[derive(Drop)]
+#[derive(Clone, Drop)]
 pub struct CardAnswer {
     pub outcome: Result<CardGiven, CardRefusal>,
     pub session: Session,

@@ -193,7 +193,7 @@ pub struct Visit {
 }
 
 /// What a pass makes of all rows.
-#[derive(Drop)]
+#[derive(Clone, Drop)]
 pub struct Passed {
     pub peers: [Peer; ROWS],
     /// Of advance: the peers whose sent timers fired. Of the other passes: the peers that were
@@ -206,14 +206,14 @@ pub struct Passed {
 }
 
 /// A notice's actions before they are numbered, and the next record.
-#[derive(Drop)]
+#[derive(Clone, Drop)]
 pub struct Acted {
     pub actions: Actions,
     pub manager: Manager,
 }
 
 /// A notice that is not refused: its lines, and the next record.
-#[derive(Drop)]
+#[derive(Clone, Drop)]
 pub struct Accepted {
     pub lines: Lines,
     pub manager: Manager,
@@ -323,7 +323,7 @@ pub struct Advanced {
 /// The answer of a call by value: its outcome, and the next record. Where it is refused, that is
 /// the record that went in (rule 10.31); of a refused set-up, one that every call refuses (rule
 /// 6.3).
-#[derive(Drop)]
+#[derive(Clone, Drop)]
 pub struct Answered<T> {
     pub outcome: Result<T, Refusal>,
     pub manager: Manager,
