@@ -12,35 +12,20 @@ use lib.ListN.{length, set, get_or-append, length-set}
 use lib.Seq.{get_or-set_same, get_or-set_other}
 use Rattle.std.proofs.lemmas.List.{set-append_left, map-set, length-map, length-append}
 use Rattle.lease.specs.declared.Peer.{Peer}
-use Rattle.lease.specs.declared.Manager.{Manager}
-use Rattle.lease.specs.Types.{True}
 use Rattle.lease.specs.Passes.{higher_number_row}
 use Rattle.lease.specs.Rows.{empty_row, row_at}
 use Rattle.lease.proofs.Tests.{fst-of, snd-of}
 use Rattle.peer_rows.specs.Clearing.{ClearedBelow}
 use Rattle.wire.specs.declared.flat.PeerC.{PeerC}
-use Rattle.wire.specs.Flat.{flat_row, flat_of}
-use Rattle.wire.specs.FromFlat.{peer_of, manager_of}
+use Rattle.wire.specs.Flat.{flat_row}
+use Rattle.wire.specs.FromFlat.{peer_of}
 use Rattle.wire.specs.Form.{is_row}
-use Rattle.wire.proofs.FlatLaws.{there_and_back}
+use Rattle.wire.proofs.FlatLaws.{row_back, row_is}
 use Rattle.flat_record.specs.Sound.{blank_row}
 use Rattle.flat_engine.specs.FlatRows.{flat_at}
-use Rattle.flat_engine.proofs.Laws.{rows_form, stands}
+use Rattle.flat_engine.proofs.Laws.{stands}
 
--- ---- a row that is written
-
--- a manager's record with that row alone
-abbrev of_row : Peer → Manager
-of_row row = record { me = 0; population = 0; expire_timeout = 0; now = record { 0 = 0 }; active_num = record { 0 = 0 }; clock = True; quiet_timer = None; peers = row ∷ [] }
-
-row-back : (row : Peer) → peer_of (flat_row row) ≡ row
-unfolding manager_of flat_of
-row-back row = ap (λ (m : Manager). row_at m.peers 0) (there_and_back (of_row row))
-
-row-form : (row : Peer) → is_row (flat_row row) ≡ true
-unfolding flat_of
-row-form row = fst-of (is_row (flat_row row)) true (rows_form (flat_of (of_row row)) (ap flat_of (there_and_back (of_row row))))
-
+-- where all elements pass, one that passes may stand in the place of any
 all-set : {A : Type 0} (q : A → Bool) (l : List A) (i : ℕ) (x : A) → list_all q l ≡ true → q x ≡ true → list_all q (set l i x) ≡ true
 all-set q [] i x h e = h
 all-set q (y ∷ l) zero x h e = rw e (snd-of (q y) (list_all q l) h)
@@ -110,7 +95,7 @@ module _ (k : ℕ) (before items behind : List PeerC) (inside : k < length items
   -- what is written is the row that a turn leaves
   wrote : peer_of x ≡ cleared (row_at (map peer_of rows) k)
   wrote =
-      ap peer_of is ∙ row-back (cleared (peer_of (flat_at items k)))
+      ap peer_of is ∙ row_back (cleared (peer_of (flat_at items k)))
       ∙ ap (λ (p : PeerC). cleared (peer_of p)) (sym (get_or-append items behind blank_row k inside)) ∙ ap cleared (stands rows k room)
 
   pub next_cleared : ClearedBelow k (map peer_of before) (map peer_of rows) → ClearedBelow (k + 1) (map peer_of before) (map peer_of (set items k x ++ behind))
@@ -119,4 +104,4 @@ module _ (k : ℕ) (before items behind : List PeerC) (inside : k < length items
       rw (← put, map-set peer_of rows k x, wrote) turned
 
   pub next_form : list_all is_row rows ≡ true → list_all is_row (set items k x ++ behind) ≡ true
-  next_form h = rw (← put) (all-set is_row rows k x h (rw is (row-form (cleared (peer_of (flat_at items k))))))
+  next_form h = rw (← put) (all-set is_row rows k x h (rw is (row_is (cleared (peer_of (flat_at items k))))))

@@ -7,13 +7,14 @@ use mathlib.Core.List.{List, [], ◌∷◌}
 use Prim.Native.Nat.{ℕ, zero, suc, ◌+◌, ◌<◌}
 use borrow.Author.Tests.{lt-ltb}
 use lib.ListN.{length, set}
-use Rattle.std.proofs.lemmas.List.{get_or-map, length-map}
+use Rattle.std.proofs.lemmas.List.{get_or-map, map-set, length-map}
 use Rattle.lease.specs.declared.Peer.{Peer}
 use Rattle.lease.specs.declared.Manager.{Manager}
 use Rattle.lease.specs.Tables.{below}
 use Rattle.lease.specs.declared.LeaseNum.{LeaseNum}
 use Rattle.lease.specs.declared.LeaseNotice.{LeaseNotice}
 use Rattle.lease.specs.Pass.{Pass}
+use Rattle.lease.specs.Pass as P
 use Rattle.lease.specs.Passes.{higher_number_row, pass_over}
 use Rattle.lease.specs.Notices.{with_peers, pass_on, raised_to, accepted_of}
 use Rattle.lease.specs.Bitmaps.{capacity}
@@ -27,7 +28,7 @@ use Rattle.refusals.specs.Fits.{ManagerFits}
 use Rattle.peer_rows.specs.Clearing.{ClearedBelow}
 use Rattle.peer_rows.proofs.ClearingClaims.{done, only_rules}
 use Rattle.flat_record.specs.Sound.{blank_row}
-use Rattle.flat_engine.specs.FlatRows.{higher_number_pass, flat_at, FlatFits}
+use Rattle.flat_engine.specs.FlatRows.{flat_at, FlatFits}
 use Rattle.lease.proofs.Tests.{snd-of}
 use Rattle.wire.specs.declared.flat.PeerC.{PeerC}
 use Rattle.wire.specs.declared.flat.ManagerC.{ManagerC}
@@ -55,11 +56,6 @@ there_at rows i h form =
     ap flat_row (stands rows i h)
     ∙ sym (get_or-map flat_row (map peer_of rows) i empty_row blank_row (rw length-map h))
     ∙ ap (λ (l : List PeerC). flat_at l i) (rows-there rows form)
-
-map_set : {A B : Type 0} (h : A → B) (l : List A) (i : ℕ) (x : A) → map h (set l i x) ≡ set (map h l) i (h x)
-map_set h [] i x = refl
-map_set h (y ∷ l) zero x = refl
-map_set h (y ∷ l) (suc i) x = ap (λ t. h y ∷ t) (map_set h l i x)
 
 -- ---- the record
 
@@ -120,23 +116,23 @@ pub row_put : (f : ManagerC) → flat_of (manager_of f) ≡ f → (i : ℕ) (p :
     → with_rows f (set f.peers i (flat_row p)) ≡ flat_of (with_peers (manager_of f) (set (manager_of f).peers i p))
 unfolding manager_of
 row_put f e i p =
-    let rows : map flat_row (set (map peer_of f.peers) i p) ≡ set f.peers i (flat_row p) = map_set flat_row (map peer_of f.peers) i p ∙ ap (λ (l : List PeerC). set l i (flat_row p)) (rows-there f.peers (rows_form f e)) in
+    let rows : map flat_row (set (map peer_of f.peers) i p) ≡ set f.peers i (flat_row p) = map-set flat_row (map peer_of f.peers) i p ∙ ap (λ (l : List PeerC). set l i (flat_row p)) (rows-there f.peers (rows_form f e)) in
     ap (λ (l : List PeerC). with_rows f l) (sym rows) ∙ rows_put f e (set (map peer_of f.peers) i p)
 
 -- ---- a higher number
 
 -- rows that are cleared below the population are those that the rules' pass leaves
 pub cleared_put : (f : ManagerC) → FlatFits f → (rows : List PeerC) → ClearedBelow f.population (map peer_of f.peers) (map peer_of rows) → list_all is_row rows ≡ true
-    → rows ≡ map flat_row (pass_over higher_number_pass f.me f.population (map peer_of f.peers)).peers
+    → rows ≡ map flat_row (pass_over P.HigherNumber f.me f.population (map peer_of f.peers)).peers
 unfolding manager_of
 cleared_put f k rows c form = sym (rows-there rows form) ∙ ap (map flat_row) (only_rules f.me f.population (map peer_of f.peers) (map peer_of rows) k.fits.own_row c)
 
 pub raise_put : (f : ManagerC) → FlatFits f → (num : LeaseNum) (rows : List PeerC)
-    → rows ≡ map flat_row (pass_over higher_number_pass f.me f.population (map peer_of f.peers)).peers → with_num_rows f num.0 rows ≡ flat_of (raised_to (manager_of f) num)
+    → rows ≡ map flat_row (pass_over P.HigherNumber f.me f.population (map peer_of f.peers)).peers → with_num_rows f num.0 rows ≡ flat_of (raised_to (manager_of f) num)
 unfolding flat_of manager_of raised_to
 raise_put f k num rows e =
     ap (λ (l : List PeerC). with_num_rows f num.0 l) e
-    ∙ ap (λ (g : ManagerC). with_num_rows g num.0 (map flat_row (pass_over higher_number_pass f.me f.population (map peer_of f.peers)).peers)) (sym k.same)
+    ∙ ap (λ (g : ManagerC). with_num_rows g num.0 (map flat_row (pass_over P.HigherNumber f.me f.population (map peer_of f.peers)).peers)) (sym k.same)
 
 -- the own id's row stays empty
 raised-fits : (m : Manager) (num : LeaseNum) → ManagerFits m → ManagerFits (raised_to m num)

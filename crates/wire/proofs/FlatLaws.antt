@@ -42,7 +42,7 @@ flag-back : (b : Bool) → eqb (flag b) 1 ≡ b
 flag-back true = refl
 flag-back false = refl
 
-row_back : (row : Peer) → peer_of (flat_row row) ≡ row
+pub row_back : (row : Peer) → peer_of (flat_row row) ≡ row
 unfolding peer_of flat_row
 row_back row = λ i.
     record {
@@ -100,7 +100,7 @@ flag_is : (b : Bool) → is_flag (flag b) ≡ true
 flag_is true = refl
 flag_is false = refl
 
-row_is : (row : Peer) → is_row (flat_row row) ≡ true
+pub row_is : (row : Peer) → is_row (flat_row row) ≡ true
 unfolding is_row flat_row
 row_is row = simp (entry-is row.guard_sent, grant-is row.promise_sent, entry-is row.guard_held, entry-is row.promise_held, flag_is row.refresh_mark)
 
