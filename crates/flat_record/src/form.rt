@@ -38,8 +38,8 @@ fn is_grant(tag: u8, at: u64, revoking: u8) -> bool
 }
 
 #[tactic(auto, unfolding(wire::specs::Form::is_row))]
-fn is_row(p: PeerC) -> bool
-    ensures { result ≡ is_row p }
+fn is_row(p: &PeerC) -> bool
+    ensures { result ≡ is_row p.now }
 {
     let sent = is_entry(p.guard_sent, p.guard_sent_at)
         && is_grant(p.promise_sent, p.promise_sent_at, p.revoking);
@@ -48,10 +48,10 @@ fn is_row(p: PeerC) -> bool
     sent && held && is_flag(u64::from(p.refresh_mark))
 }
 
-fn are_rows(peers: [PeerC; ROWS]) -> bool
-    ensures { result ≡ list_all is_row peers }
+fn are_rows(peers: &[PeerC; ROWS]) -> bool
+    ensures { result ≡ list_all is_row peers.now }
 {
-    peers.iter().all(|p| is_row(*p))
+    peers.iter().all(is_row)
 }
 
 // A flag, and beside a true clock the quotient 1.0.
@@ -84,5 +84,5 @@ pub fn is_record(f: ManagerC) -> bool
 {
     is_clock_pair(f.drifting, f.quotient)
         && is_quiet_pair(f.quiet, f.quiet_until)
-        && are_rows(f.peers)
+        && are_rows(&f.peers)
 }
