@@ -1,6 +1,7 @@
 -- Flat rows under a pass, and what a call on a flat record asks of it. Definitions only.
 use Rattle.std.specs.Prelude.{ℕ, ◌≡◌, true, List, get_or}
 use Rattle.lease.specs.Pass.{Pass}
+use Rattle.lease.specs.Pass as P
 use Rattle.lease.specs.Passes.{row_after}
 use Rattle.lease.specs.RecordCheck.{record_valid}
 use Rattle.refusals.specs.Fits.{ManagerFits}
@@ -9,6 +10,10 @@ use Rattle.wire.specs.declared.flat.ManagerC.{ManagerC}
 use Rattle.wire.specs.Flat.{flat_row, flat_of}
 use Rattle.wire.specs.FromFlat.{peer_of, manager_of}
 use Rattle.flat_record.specs.Sound.{blank_row}
+
+-- The pass that a higher number asks for.
+abbrev pub higher_number_pass : Pass
+higher_number_pass = P.HigherNumber
 
 -- The flat row of an id after a pass.
 abbrev pub flat_row_after : Pass → ℕ → ℕ → PeerC → PeerC

@@ -5,18 +5,38 @@ ghost use Rattle.std.specs.List.{list_all};
 ghost use Rattle.lease.specs.Bitmaps.{capacity};
 ghost use Rattle.lease.specs.Passes.{pass_over, visit_of};
 ghost use Rattle.lease.specs.Rows.{row_at};
+ghost use Rattle.peer_rows.specs.Fits.{AnyRow};
 ghost use Rattle.peer_rows.specs.Marks.{marks_of};
 ghost use Rattle.wire.specs.Flat.{flat_row};
 ghost use Rattle.wire.specs.FromFlat.{peer_of};
 ghost use Rattle.wire.specs.Form.{is_row};
+ghost use Rattle.flat_engine.specs.FlatRows.{higher_number_pass};
 
 use bitmap::{none, with_id};
 use flat_record::from_flat::peer_of;
 use flat_record::to_flat::flat_row;
-use lease::{ROWS, ReplicaId};
+use lease::{Peer, ROWS, ReplicaId};
 use peer_rows::each_row::{InSets, Look, Rule};
+use peer_rows::entries::{drop_held, drop_sent};
 use peer_rows::pass::{Marks, look_at, visit_at};
 use wire::flat::PeerC;
+
+/// A higher number (rule 7.2), as a rule for `flat_pass_over`: all four entries go, the mark stays. That pass leaves the own id's row, which
+/// `clearing::flat_clear_below` clears as any other.
+#[derive(Clone, Copy)]
+pub struct HigherNumber;
+
+impl Rule for HigherNumber {
+    ghost pass = { λ r. higher_number_pass };
+
+    ghost fits = { λ r. AnyRow };
+
+    fn visit(&self, i: usize, row: &mut Peer) -> InSets {
+        drop_sent(row);
+        drop_held(row);
+        InSets::NONE
+    }
+}
 
 // The rule at the id i: the own id's row stays.
 fn visit_flat<R: Rule>(rule: &R, me: ReplicaId, i: usize, p: &mut PeerC) -> InSets
@@ -84,5 +104,53 @@ pub fn flat_sets_over<L: Look>(rows: &[PeerC; ROWS], me: ReplicaId, n: usize, ru
         first,
         second,
         count,
+    }
+}
+
+#[cfg(test)]
+mod tests {
+    use super::*;
+
+    // An entry in every table, and a mark.
+    const FULL: PeerC = PeerC {
+        guard_sent: 1,
+        promise_sent: 2,
+        guard_held: 2,
+        promise_held: 3,
+        revoking: 1,
+        refresh_mark: 1,
+        guard_sent_at: 0,
+        promise_sent_at: 7,
+        guard_held_at: 8,
+        promise_held_at: 0,
+    };
+
+    #[test]
+    fn higher_number_empties_the_tables(rt: HostRuntime) {
+        let mut row = peer_of(FULL);
+        let sets = HigherNumber.visit(2, &mut row);
+        assert!(rt; row.guard_sent.is_none());
+        assert!(rt; row.promise_sent.is_none());
+        assert!(rt; row.guard_held.is_none());
+        assert!(rt; row.promise_held.is_none());
+        assert!(rt; row.refresh_mark);
+        assert!(rt; !sets.first);
+        assert!(rt; !sets.second);
+    }
+
+    #[test]
+    fn higher_number_leaves_the_own_row(rt: HostRuntime) {
+        let mut rows = [FULL; ROWS];
+        let sets = flat_pass_over(&mut rows, 1, 3, &HigherNumber);
+        for i in [0, 2] {
+            assert_eq!(rt; rows[i].guard_sent, 0);
+            assert_eq!(rt; rows[i].promise_held, 0);
+            assert_eq!(rt; rows[i].refresh_mark, 1);
+        }
+        for i in [1, 3, 63] {
+            assert_eq!(rt; rows[i].guard_sent, 1);
+            assert_eq!(rt; rows[i].promise_held, 3);
+        }
+        assert_eq!(rt; sets.count, 0);
     }
 }
